@@ -1,0 +1,7 @@
+pub mod Bools
+pub mod Tests
+pub mod Bytes
+pub mod Bounded
+pub mod Sums
+pub mod Writes
+pub mod Chain

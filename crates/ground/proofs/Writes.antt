@@ -1,0 +1,40 @@
+-- Laws of `setBelow`, a writing loop.
+use mathlib.Core.List.{List}
+use mathlib.Core.Path.{_≡_, refl, _∙_}
+use Prim.Native.Nat.{ℕ, zero, suc, _+_, _<_, _≤_}
+use lib.ListN.{length, getD, set, length-set}
+use lib.Seq.{getD-set-same, getD-set-other}
+use native.Mathlib.Numerals.{add-one}
+use native.Mathlib.Omega.{arith}
+use native.Mathlib.Decide.{ℕ-discrete}
+use Rattle.ground.specs.Bounded.{setBelow}
+
+module _ {A : Type 0} (f : ℕ → A) (l : List A) where
+  pub set-zero : setBelow 0 f l ≡ l
+  unfolding setBelow
+  set-zero = refl
+
+  -- a turn of the loop
+  pub set-more : (i : ℕ) → setBelow (i + 1) f l ≡ set (setBelow i f l) i (f i)
+  unfolding setBelow
+  set-more i = rw add-one
+
+  pub set-length : (n : ℕ) → length (setBelow n f l) ≡ length l
+  unfolding setBelow
+  set-length zero = refl
+  set-length (suc n) = length-set (setBelow n f l) n (f n) ∙ set-length n
+
+  pub set-below : (n i : ℕ) (d : A) → i < n → n ≤ length l → getD (setBelow n f l) i d ≡ f i
+  unfolding setBelow
+  set-below zero i d h k = absurd (omega arith)
+  set-below (suc n) i d h k = go (ℕ-discrete i n) (set-below n i d)
+    where
+      go : Dec (i ≡ n) → (i < n → n ≤ length l → getD (setBelow n f l) i d ≡ f i)
+        → getD (set (setBelow n f l) n (f n)) i d ≡ f i
+      go (yes q) ih = rw q (getD-set-same (setBelow n f l) n (f n) d (rw (set-length n) k))
+      go (no q) ih = getD-set-other (setBelow n f l) n i (f n) d q ∙ ih (omega arith) (omega arith)
+
+  pub set-above : (n i : ℕ) (d : A) → n ≤ i → getD (setBelow n f l) i d ≡ getD l i d
+  unfolding setBelow
+  set-above zero i d h = refl
+  set-above (suc n) i d h = getD-set-other (setBelow n f l) n i (f n) d (omega arith) ∙ set-above n i d (omega arith)

@@ -1,0 +1,34 @@
+// Total reads of bytes and big-endian numbers: past the end every byte is 0.
+ghost use mathlib.Core.Path.{_≡_};
+ghost use Prim.Native.Nat.{_+_, _*_, _-_};
+ghost use lib.ListN.{length};
+ghost use Rattle.ground.specs.Bytes.{at, be16};
+
+pub fn byte(s: &[u8], i: usize) -> u8
+    ensures { λ r. ⌜ r ≡ at (now (s .entry)) i ⌝ }
+{
+    if i < s.len() { s[i] } else { 0 }
+}
+
+// Its parameters fit by their type, so that a caller is asked nothing.
+pub fn join(hi: u8, lo: u8) -> u16
+    ensures { λ r. ⌜ r ≡ hi * 256 + lo ⌝ }
+{
+    (hi as u16) * 256 + (lo as u16)
+}
+
+pub fn word(s: &[u8], i: usize) -> u16
+    ensures { λ r. ⌜ r ≡ be16 (now (s .entry)) i ⌝ }
+{
+    if i < s.len() {
+        return join(s[i], byte(s, i + 1));
+    }
+    0
+}
+
+// Where the last n bytes begin, and the start of a shorter string.
+pub fn back(s: &[u8], n: usize) -> usize
+    ensures { λ r. ⌜ r ≡ length (now (s .entry)) - n ⌝ }
+{
+    if s.len() < n { 0 } else { s.len() - n }
+}
