@@ -52,7 +52,7 @@ module _ (p : ℕ → Bool) where
   all-some (suc n) e = go (allBelow n p) refl (p n) refl (all-some n)
     where
       go : (a : Bool) → allBelow n p ≡ a → (t : Bool) → p n ≡ t → (allBelow n p ≡ false → (i : ℕ) × (i < n) × (p i ≡ false))
-        → (i : ℕ) × (i < suc n) × (p i ≡ false)
+          → (i : ℕ) × (i < suc n) × (p i ≡ false)
       go false q t r ih = let s = ih q in (s .0, omega (arith, s .1), s .2)
       go true q false r ih = (n, omega arith, r)
       go true q true r ih = never (rw (q, r)) e
@@ -77,8 +77,8 @@ first-is zero p l = absurd (not-suc-le-zero l)
 first-is (suc n) p l = go (p 0) refl l (first-is n (λ i. p (suc i)))
   where
     go : (t : Bool) → p 0 ≡ t → cond t 0 (suc (firstBelow n (λ i. p (suc i)))) < suc n
-      → (firstBelow n (λ i. p (suc i)) < n → p (suc (firstBelow n (λ i. p (suc i)))) ≡ true)
-      → p (cond t 0 (suc (firstBelow n (λ i. p (suc i))))) ≡ true
+        → (firstBelow n (λ i. p (suc i)) < n → p (suc (firstBelow n (λ i. p (suc i)))) ≡ true)
+        → p (cond t 0 (suc (firstBelow n (λ i. p (suc i))))) ≡ true
     go true q k ih = q
     go false q k ih = ih (omega arith)
 
@@ -88,7 +88,7 @@ first-least zero p j l = absurd (not-suc-le-zero l)
 first-least (suc n) p j l = go (p 0) refl j l (first-least n (λ i. p (suc i)))
   where
     go : (t : Bool) → p 0 ≡ t → (j : ℕ) → j < cond t 0 (suc (firstBelow n (λ i. p (suc i))))
-      → ((i : ℕ) → i < firstBelow n (λ i. p (suc i)) → p (suc i) ≡ false) → p j ≡ false
+        → ((i : ℕ) → i < firstBelow n (λ i. p (suc i)) → p (suc i) ≡ false) → p j ≡ false
     go true q j k ih = absurd (not-suc-le-zero k)
     go false q zero k ih = q
     go false q (suc j) k ih = ih j (omega arith)

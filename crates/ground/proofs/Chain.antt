@@ -31,7 +31,7 @@ module _ {A : Type 0} where
 
 -- a refusal that was not given
 pub refuse-elim : {A : Type 0} (bad : A → Bool) (ok : Bool) (v rest : A) → bad v ≡ true → bad (refuse ok v rest) ≡ false
-  → (ok ≡ true) × (bad rest ≡ false)
+    → (ok ≡ true) × (bad rest ≡ false)
 unfolding refuse
 refuse-elim bad true v rest b h = (refl, h)
 refuse-elim bad false v rest b h = never b h
@@ -85,6 +85,7 @@ module _ {A : Type 0} (bad : A → Bool) (pass : A) (fine : bad pass ≡ false) 
       last : (w : A) (t : Bool) → bad w ≡ t → bad (cond t w pass) ≡ false → bad w ≡ false
       last w true p h = h
       last w false p h = p
+
       ends : (v w : A) (t : Bool) → bad v ≡ t → bad (cond t v (cond (bad w) w pass)) ≡ false → (bad v ≡ false) × (bad w ≡ false)
       ends v w true p h = never p h
       ends v w false p h = (p, last w (bad w) refl h)
@@ -106,15 +107,15 @@ module _ {A : Type 0} (bad : A → Bool) (pass : A) (fine : bad pass ≡ false) 
 
   -- a search that found something: the answer is the first bad one
   pub scan-first : (n : ℕ) → bad (scan bad pass n f) ≡ true
-    → (i : ℕ) × (i < n) × (scan bad pass n f ≡ f i) × ((j : ℕ) → j < i → bad (f j) ≡ false)
+      → (i : ℕ) × (i < n) × (scan bad pass n f ≡ f i) × ((j : ℕ) → j < i → bad (f j) ≡ false)
   unfolding scan orThen
   scan-first zero h = never h fine
   scan-first (suc n) h = here (bad (scan bad pass n f)) refl (bad (f n)) refl (scan-first n)
     where
       here : (t : Bool) → bad (scan bad pass n f) ≡ t → (u : Bool) → bad (f n) ≡ u
-        → (bad (scan bad pass n f) ≡ true
+          → (bad (scan bad pass n f) ≡ true
           → (i : ℕ) × (i < n) × (scan bad pass n f ≡ f i) × ((j : ℕ) → j < i → bad (f j) ≡ false))
-        → (i : ℕ) × (i < suc n) × (scan bad pass (suc n) f ≡ f i) × ((j : ℕ) → j < i → bad (f j) ≡ false)
+          → (i : ℕ) × (i < suc n) × (scan bad pass (suc n) f ≡ f i) × ((j : ℕ) → j < i → bad (f j) ≡ false)
       here true p u q ih = let s = ih p in (s .0, omega (arith, s .1), rw p (s .2), s .3)
       here false p true q ih = (n, omega arith, rw (p, q), scan-each n p)
       here false p false q ih = never h (rw (p, q, fine))

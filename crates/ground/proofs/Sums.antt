@@ -13,7 +13,7 @@ sum-le (suc n) f g h = omega (arith, sum-le n f g (λ i l. h i (omega arith)), h
 
 -- every place but i compares, and place i does with what stands beside the sums
 pub sum-one : (n : ℕ) (f g : ℕ → ℕ) (i p q : ℕ) → i < n → ((j : ℕ) → j < n → j ≢ i → f j ≤ g j) → f i + p ≤ g i + q
-  → sumBelow n f + p ≤ sumBelow n g + q
+    → sumBelow n f + p ≤ sumBelow n g + q
 unfolding sumBelow
 sum-one zero f g i p q l h e = omega arith
 sum-one (suc n) f g i p q l h e = go (ℕ-discrete i n) (λ l′. sum-one n f g i p q l′ (λ j k m. h j (omega arith) m) e)
@@ -26,7 +26,7 @@ sum-one (suc n) f g i p q l h e = go (ℕ-discrete i n) (λ l′. sum-one n f g 
 
 -- every place but i < k compares, and these two do together with what stands beside the sums
 pub sum-two : (n : ℕ) (f g : ℕ → ℕ) (i k p q : ℕ) → i < k → k < n → ((j : ℕ) → j < n → j ≢ i → j ≢ k → f j ≤ g j)
-  → f i + f k + p ≤ g i + g k + q → sumBelow n f + p ≤ sumBelow n g + q
+    → f i + f k + p ≤ g i + g k + q → sumBelow n f + p ≤ sumBelow n g + q
 unfolding sumBelow
 sum-two zero f g i k p q l m h e = omega arith
 sum-two (suc n) f g i k p q l m h e =
@@ -35,9 +35,10 @@ sum-two (suc n) f g i k p q l m h e =
     go : Dec (k ≡ n) → (k < n → sumBelow n f + p ≤ sumBelow n g + q) → sumBelow n f + f n + p ≤ sumBelow n g + g n + q
     go (yes r) ih =
         let e′ : f i + f n + p ≤ g i + g n + q = rw r at e in
-        omega
-        (arith,
-        sum-one n f g i (f n + p) (g n + q) (omega arith) (λ j a b. h j (omega arith) b (omega arith)) (omega arith))
+        omega (
+          arith,
+          sum-one n f g i (f n + p) (g n + q) (omega arith) (λ j a b. h j (omega arith) b (omega arith)) (omega arith),
+        )
     go (no r) ih = omega (arith, ih (omega arith), h n (omega arith) (omega arith) (omega arith))
 
 pub sum-ge : (n : ℕ) (f : ℕ → ℕ) (c : ℕ) → ((i : ℕ) → i < n → c ≤ f i) → c * n ≤ sumBelow n f

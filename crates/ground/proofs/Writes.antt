@@ -30,7 +30,7 @@ module _ {A : Type 0} (f : ℕ → A) (l : List A) where
   set-below (suc n) i d h k = go (ℕ-discrete i n) (set-below n i d)
     where
       go : Dec (i ≡ n) → (i < n → n ≤ length l → getD (setBelow n f l) i d ≡ f i)
-        → getD (set (setBelow n f l) n (f n)) i d ≡ f i
+          → getD (set (setBelow n f l) n (f n)) i d ≡ f i
       go (yes q) ih = rw q (getD-set-same (setBelow n f l) n (f n) d (rw (set-length n) k))
       go (no q) ih = getD-set-other (setBelow n f l) n i (f n) d q ∙ ih (omega arith) (omega arith)
 

@@ -1,0 +1,17 @@
+use Rattle.ground.proofs.Tests.{tests}
+use Rattle.ground.specs.Chain.{refuse}
+use Rattle.instructions.specs.Table.{zeroed}
+use borrow.Author.Needs.{needs}
+use Rattle.instructions.proofs.zero_operand.Statement.{statement}
+use Rattle.instructions.proofs.zero_operand.Tie as tie
+
+returns : tie.Need-returns
+unfolding zeroed refuse
+returns c = search (needs, tests)
+
+returns-2 : tie.Need-returns-2
+unfolding zeroed refuse
+returns-2 c = search (needs, tests)
+
+pub zero-operand-spec : {M : Type 1} → statement M
+zero-operand-spec = tie.close (tie.spec returns returns-2)
