@@ -1,4 +1,4 @@
--- Laws of `setBelow`, a writing loop.
+-- Laws of `setBelow` and `fillFrom`, the writing loops.
 use mathlib.Core.List.{List}
 use mathlib.Core.Path.{_≡_, refl, _∙_}
 use Prim.Native.Nat.{ℕ, zero, suc, _+_, _<_, _≤_}
@@ -7,7 +7,7 @@ use lib.Seq.{getD-set-same, getD-set-other}
 use native.Mathlib.Numerals.{add-one}
 use native.Mathlib.Omega.{arith}
 use native.Mathlib.Decide.{ℕ-discrete}
-use Rattle.ground.specs.Bounded.{setBelow}
+use Rattle.ground.specs.Bounded.{setBelow, fillFrom}
 
 module _ {A : Type 0} (f : ℕ → A) (l : List A) where
   pub set-zero : setBelow 0 f l ≡ l
@@ -38,3 +38,32 @@ module _ {A : Type 0} (f : ℕ → A) (l : List A) where
   unfolding setBelow
   set-above zero i d h = refl
   set-above (suc n) i d h = getD-set-other (setBelow n f l) n i (f n) d (omega arith) ∙ set-above n i d (omega arith)
+
+module _ {A : Type 0} (a : ℕ) (x : A) (l : List A) where
+  pub fill-zero : fillFrom a 0 x l ≡ l
+  unfolding fillFrom
+  fill-zero = refl
+
+  pub fill-more : (n : ℕ) → fillFrom a (n + 1) x l ≡ set (fillFrom a n x l) (a + n) x
+  unfolding fillFrom
+  fill-more n = rw add-one
+
+  pub fill-length : (n : ℕ) → length (fillFrom a n x l) ≡ length l
+  unfolding fillFrom
+  fill-length zero = refl
+  fill-length (suc n) = length-set (fillFrom a n x l) (a + n) x ∙ fill-length n
+
+  pub fill-in : (n i : ℕ) (d : A) → a ≤ i → i < a + n → a + n ≤ length l → getD (fillFrom a n x l) i d ≡ x
+  unfolding fillFrom
+  fill-in zero i d h k m = absurd (omega arith)
+  fill-in (suc n) i d h k m = go (ℕ-discrete i (a + n)) (fill-in n i d h)
+    where
+      go : Dec (i ≡ a + n) → (i < a + n → a + n ≤ length l → getD (fillFrom a n x l) i d ≡ x)
+          → getD (set (fillFrom a n x l) (a + n) x) i d ≡ x
+      go (yes q) ih = rw q (getD-set-same (fillFrom a n x l) (a + n) x d (rw (fill-length n) (omega arith)))
+      go (no q) ih = getD-set-other (fillFrom a n x l) (a + n) i x d q ∙ ih (omega arith) (omega arith)
+
+  pub fill-out : (n i : ℕ) (d : A) → (a ≤ i → a + n ≤ i) → getD (fillFrom a n x l) i d ≡ getD l i d
+  unfolding fillFrom
+  fill-out zero i d h = refl
+  fill-out (suc n) i d h = getD-set-other (fillFrom a n x l) (a + n) i x d (λ q. omega (arith, h (omega arith))) ∙ fill-out n i d (λ k. omega (arith, h k))

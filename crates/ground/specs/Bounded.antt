@@ -28,3 +28,8 @@ sumBelow (suc n) f = sumBelow n f + f n
 unfoldable pub setBelow {ℓ} : {A : Type ℓ} → ℕ → (ℕ → A) → List A → List A
 setBelow zero f l = l
 setBelow (suc n) f l = set (setBelow n f l) n (f n)
+
+-- l with x at each of the n places from a on
+unfoldable pub fillFrom {ℓ} : {A : Type ℓ} → ℕ → ℕ → A → List A → List A
+fillFrom a zero x l = l
+fillFrom a (suc n) x l = set (fillFrom a n x l) (a + n) x
