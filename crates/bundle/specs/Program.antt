@@ -1,0 +1,39 @@
+-- The abstract program that rules, machine and soundness speak of. Rows are apart: the machine never reads them.
+use mathlib.Core.List.{List}
+use Prim.Native.Nat.{ℕ}
+use Rattle.ground.specs.Bytes.{at}
+use Rattle.instructions.specs.declared.Instruction.{Instruction}
+use Rattle.bundle.specs.declared.Class.{Class}
+use Rattle.bundle.specs.Container.{classes, classAt, partOf, instructionAt}
+
+-- n arguments, V variables, stack limit K, k addresses; argument i's descriptor (255 is Int, otherwise a class); address l's instruction
+pub record Method : Type 0 where
+  pub args : ℕ
+  pub vars : ℕ
+  pub limit : ℕ
+  pub code : ℕ
+  pub descriptor : ℕ → ℕ
+  pub instruction : ℕ → Instruction
+
+pub record Program : Type 0 where
+  pub classes : ℕ
+  pub method : ℕ → Method
+
+-- the method that a record is
+unfoldable pub methodOf : Class → List ℕ → Method
+methodOf k r =
+    record {
+      args = k .args;
+      vars = k .vars;
+      limit = k .limit;
+      code = k .code;
+      descriptor = at r;
+      instruction = instructionAt k r;
+    }
+
+unfoldable pub methodAt : List ℕ → ℕ → Method
+methodAt b c = let k = classAt b c in methodOf k (partOf b k)
+
+-- the program that a bundle is
+unfoldable pub programOf : List ℕ → Program
+programOf b = record { classes = classes b; method = methodAt b }
