@@ -1,0 +1,16 @@
+use Rattle.ground.proofs.Tests.{tests}
+use Rattle.structure.specs.Conditions.{codeOk}
+use borrow.Author.Needs.{needs}
+use Rattle.structure.proofs.code_ok.Statement.{statement}
+use Rattle.structure.proofs.code_ok.Tie as tie
+
+returns : tie.Need-returns
+unfolding codeOk
+returns c = search (needs, tests)
+
+returns-2 : tie.Need-returns-2
+unfolding codeOk
+returns-2 c = search (needs, tests)
+
+pub code-ok-spec : {M : Type 1} → statement M
+code-ok-spec = tie.close (tie.spec returns returns-2)

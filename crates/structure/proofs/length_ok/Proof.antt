@@ -1,0 +1,16 @@
+use Rattle.ground.proofs.Tests.{tests}
+use Rattle.structure.specs.Conditions.{lengthOk}
+use borrow.Author.Needs.{needs}
+use Rattle.structure.proofs.length_ok.Statement.{statement}
+use Rattle.structure.proofs.length_ok.Tie as tie
+
+returns : tie.Need-returns
+unfolding lengthOk
+returns c = search (needs, tests)
+
+returns-2 : tie.Need-returns-2
+unfolding lengthOk
+returns-2 c = search (needs, tests)
+
+pub length-ok-spec : {M : Type 1} → statement M
+length-ok-spec = tie.close (tie.spec returns returns-2)

@@ -1,0 +1,16 @@
+use Rattle.ground.proofs.Tests.{tests}
+use Rattle.structure.specs.Conditions.{mainOk}
+use borrow.Author.Needs.{needs}
+use Rattle.structure.proofs.main_ok.Statement.{statement}
+use Rattle.structure.proofs.main_ok.Tie as tie
+
+returns : tie.Need-returns
+unfolding mainOk
+returns c = search (needs, tests)
+
+returns-2 : tie.Need-returns-2
+unfolding mainOk
+returns-2 c = search (needs, tests)
+
+pub main-ok-spec : {M : Type 1} → statement M
+main-ok-spec = tie.close (tie.spec returns returns-2)

@@ -1,0 +1,25 @@
+use Rattle.structure.specs.Structure.{tableOfClass}
+use borrow.Author.Needs.{needs}
+use Rattle.structure.proofs.table_of_class.Statement.{statement}
+use Rattle.structure.proofs.table_of_class.Tie as tie
+
+class-at-requires : tie.Need-class-at-requires
+class-at-requires c κs = search needs
+
+classes-requires : tie.Need-classes-requires
+classes-requires c κs = search needs
+
+part-of-requires : tie.Need-part-of-requires
+part-of-requires c κs = search needs
+
+table-of-requires : tie.Need-table-of-requires
+table-of-requires c κs = search needs
+
+returns : tie.Need-returns
+unfolding tableOfClass
+returns c = rw (← c .before .before .before .class-at .ensures, ← c .before .before .classes .ensures, ← c .before .part-of .ensures) (c .table-of .ensures)
+
+pub table-of-class-spec : {M : Type 1} → statement M
+table-of-class-spec =
+    tie.close
+    (tie.spec class-at-requires classes-requires part-of-requires table-of-requires returns)

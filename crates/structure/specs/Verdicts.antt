@@ -1,0 +1,24 @@
+-- A verdict: its number, and the class and address that it names.
+use mathlib.Core.Bool.{Bool, not}
+use Prim.Native.Nat.{ℕ}
+use lib.Dec.{eqb}
+use Rattle.ground.specs.Chain.{orThen, scan}
+use Rattle.structure.specs.declared.Verdict.{Verdict}
+
+abbrev pub verdict : ℕ → ℕ → ℕ → Verdict
+verdict n c a = record { number = n; class = c; address = a }
+
+abbrev pub isBad : Verdict → Bool
+isBad v = not (eqb (v .number) 0)
+
+-- nothing broken so far
+abbrev pub pass : Verdict
+pass = verdict 0 0 0
+
+-- one stage after another: the first's verdict where it is bad
+abbrev pub andThen : Verdict → Verdict → Verdict
+andThen first second = orThen isBad first second
+
+-- the first bad verdict of n in ascending order
+abbrev pub ascending : ℕ → (ℕ → Verdict) → Verdict
+ascending n f = scan isBad pass n f

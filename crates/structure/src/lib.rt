@@ -1,0 +1,308 @@
+// Verdicts 1 to 7 of document 01 in their order, and the search for a class's record.
+ghost use mathlib.Core.Path.{_≡_};
+ghost use Rattle.structure.specs.Verdicts.{pass};
+ghost use Rattle.structure.specs.Conditions.{lengthOk, trailerOk, directoryOk, mainOk, codeOk, limitsOk, descriptorOk, descriptorsOk, addressOk};
+ghost use Rattle.structure.specs.Structure.{headOf, shapeOf, shapeAt, shapesOf, layoutOf, tableAt, tableOf, tableOfClass, tablesOf, structureOf, recordOf};
+ghost use Rattle.bundle.specs.Container.{classes};
+ghost use Prim.Native.Nat.{_<_, _≤_};
+use bundle::Class;
+use instructions::Addr;
+
+// The document's number, class and address; 0 is no verdict or, at the end, accepted with the class count.
+pub struct Verdict {
+    pub number: u8,
+    pub class: u8,
+    pub address: u16,
+}
+
+fn length_ok(b: &[u8]) -> bool
+    ensures { λ r. ⌜ r ≡ lengthOk (now (b .entry)) ⌝ }
+{
+    if b.len() < 8 {
+        return false;
+    }
+    b.len() <= 65535
+}
+
+fn trailer_ok(b: &[u8]) -> bool
+    ensures { λ r. ⌜ r ≡ trailerOk (now (b .entry)) ⌝ }
+{
+    if ground::byte(b, ground::back(b, 2)) != 76 {
+        return false;
+    }
+    if ground::byte(b, ground::back(b, 1)) != 75 {
+        return false;
+    }
+    if ground::byte(b, ground::back(b, 5)) != 0 {
+        return false;
+    }
+    ground::word(b, ground::back(b, 4)) as usize == b.len()
+}
+
+fn directory_ok(b: &[u8]) -> bool
+    ensures { λ r. ⌜ r ≡ directoryOk (now (b .entry)) ⌝ }
+{
+    let n = bundle::classes(b);
+    if n < 1 {
+        return false;
+    }
+    if 8 < n {
+        return false;
+    }
+    bundle::directory_at(b) as usize + 8 * (n as usize) <= ground::back(b, 8)
+}
+
+fn head(b: &[u8]) -> Verdict
+    ensures { λ r. ⌜ r ≡ headOf (now (b .entry)) ⌝ }
+{
+    if !length_ok(b) {
+        return Verdict {
+            number: 1,
+            class: 0,
+            address: 0,
+        };
+    }
+    if !trailer_ok(b) {
+        return Verdict {
+            number: 2,
+            class: 0,
+            address: 0,
+        };
+    }
+    if !directory_ok(b) {
+        return Verdict {
+            number: 3,
+            class: 0,
+            address: 0,
+        };
+    }
+    Verdict {
+        number: 0,
+        class: 0,
+        address: 0,
+    }
+}
+
+fn main_ok(c: u8, k: Class) -> bool
+    ensures { λ r. ⌜ r ≡ mainOk c k ⌝ }
+{
+    if c != 0 {
+        return true;
+    }
+    k.args == 0
+}
+
+fn code_ok(k: Class) -> bool
+    ensures { λ r. ⌜ r ≡ codeOk k ⌝ }
+{
+    if k.code < 1 {
+        return false;
+    }
+    k.code <= 256
+}
+
+fn limits_ok(c: u8, k: Class) -> bool
+    ensures { λ r. ⌜ r ≡ limitsOk c k ⌝ }
+{
+    if k.vars < k.args {
+        return false;
+    }
+    if 16 < k.vars {
+        return false;
+    }
+    if 16 < k.limit {
+        return false;
+    }
+    if k.zero != 0 {
+        return false;
+    }
+    if !main_ok(c, k) {
+        return false;
+    }
+    code_ok(k)
+}
+
+fn descriptor_ok(n: u8, r: &[u8], i: usize) -> bool
+    ensures { λ o. ⌜ o ≡ descriptorOk n (now (r .entry)) i ⌝ }
+{
+    let d = ground::byte(r, i);
+    if d == 255 {
+        return true;
+    }
+    d < n
+}
+
+fn descriptors_ok(n: u8, k: Class, r: &[u8]) -> bool
+    ensures { λ o. ⌜ o ≡ descriptorsOk n k (now (r .entry)) ⌝ }
+{
+    let args = k.args as usize;
+    for i in 0..args {
+        if !descriptor_ok(n, r, i) {
+            return false;
+        }
+    }
+    true
+}
+
+fn shape_of(b: &[u8], c: u8, k: Class) -> Verdict
+    ensures { λ r. ⌜ r ≡ shapeOf (now (b .entry)) c k ⌝ }
+{
+    if !limits_ok(c, k) {
+        return Verdict {
+            number: 4,
+            class: c,
+            address: 0,
+        };
+    }
+    if !bundle::record_fits(b, k) {
+        return Verdict {
+            number: 5,
+            class: c,
+            address: 0,
+        };
+    }
+    if !descriptors_ok(bundle::classes(b), k, bundle::part_of(b, k)) {
+        return Verdict {
+            number: 6,
+            class: c,
+            address: 0,
+        };
+    }
+    Verdict {
+        number: 0,
+        class: 0,
+        address: 0,
+    }
+}
+
+fn shape_at(b: &[u8], c: u8) -> Verdict
+    ensures { λ r. ⌜ r ≡ shapeAt (now (b .entry)) c ⌝ }
+{
+    shape_of(b, c, bundle::class_at(b, c))
+}
+
+fn shapes(b: &[u8]) -> Verdict
+    ensures { λ r. ⌜ r ≡ shapesOf (now (b .entry)) ⌝ }
+{
+    let n = bundle::classes(b);
+    for c in 0..n {
+        let v = shape_at(b, c);
+        if v.number != 0 {
+            return v;
+        }
+    }
+    Verdict {
+        number: 0,
+        class: 0,
+        address: 0,
+    }
+}
+
+// Verdicts 1 to 6: where these pass, every record can be read.
+fn layout(b: &[u8]) -> Verdict
+    ensures { λ r. ⌜ r ≡ layoutOf (now (b .entry)) ⌝ }
+{
+    let v = head(b);
+    if v.number != 0 {
+        return v;
+    }
+    shapes(b)
+}
+
+fn address_ok(n: u8, k: Class, r: &[u8], l: Addr) -> bool
+    ensures { λ o. ⌜ o ≡ addressOk n k (now (r .entry)) (l .0) ⌝ }
+{
+    instructions::instruction_ok(n, k.vars, k.code, l, bundle::instruction_at(k, r, l))
+}
+
+fn table_at(n: u8, c: u8, k: Class, r: &[u8], i: u16) -> Verdict
+    requires { ⌜ i < 65535 ⌝ }
+    ensures { λ o. ⌜ o ≡ tableAt n c k (now (r .entry)) i ⌝ }
+{
+    if !address_ok(n, k, r, Addr(i + 1)) {
+        return Verdict {
+            number: 7,
+            class: c,
+            address: i + 1,
+        };
+    }
+    Verdict {
+        number: 0,
+        class: 0,
+        address: 0,
+    }
+}
+
+fn table_of(n: u8, c: u8, k: Class, r: &[u8]) -> Verdict
+    ensures { λ o. ⌜ o ≡ tableOf n c k (now (r .entry)) ⌝ }
+{
+    let code = k.code;
+    for i in 0..code {
+        let v = table_at(n, c, k, r, i);
+        if v.number != 0 {
+            return v;
+        }
+    }
+    Verdict {
+        number: 0,
+        class: 0,
+        address: 0,
+    }
+}
+
+fn table_of_class(b: &[u8], c: u8) -> Verdict
+    ensures { λ r. ⌜ r ≡ tableOfClass (now (b .entry)) c ⌝ }
+{
+    let k = bundle::class_at(b, c);
+    table_of(bundle::classes(b), c, k, bundle::part_of(b, k))
+}
+
+fn tables(b: &[u8]) -> Verdict
+    ensures { λ r. ⌜ r ≡ tablesOf (now (b .entry)) ⌝ }
+{
+    let n = bundle::classes(b);
+    for c in 0..n {
+        let v = table_of_class(b, c);
+        if v.number != 0 {
+            return v;
+        }
+    }
+    Verdict {
+        number: 0,
+        class: 0,
+        address: 0,
+    }
+}
+
+// The first of verdicts 1 to 7 that the bundle draws; 0 with the class count where there is none.
+pub fn structure(b: &[u8]) -> Verdict
+    ensures { λ r. ⌜ r ≡ structureOf (now (b .entry)) ⌝ }
+{
+    let v = layout(b);
+    if v.number != 0 {
+        return v;
+    }
+    let w = tables(b);
+    if w.number != 0 {
+        return w;
+    }
+    Verdict {
+        number: 0,
+        class: bundle::classes(b),
+        address: 0,
+    }
+}
+
+// The record of a class as a part of the caller's bundle, no copy; empty on verdicts 1 to 6 or where there is no such class.
+pub fn record<'a>(b: &'a [u8], c: u8) -> &'a [u8]
+    ensures { λ r. ⌜ now r ≡ recordOf (now (b .entry)) c ⌝ }
+{
+    let v = layout(b);
+    if v.number != 0 {
+        return &b[..0];
+    }
+    if bundle::classes(b) <= c {
+        return &b[..0];
+    }
+    bundle::part_of(b, bundle::class_at(b, c))
+}
