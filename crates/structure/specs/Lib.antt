@@ -1,3 +1,4 @@
 pub mod Verdicts
 pub mod Conditions
 pub mod Structure
+pub mod Places

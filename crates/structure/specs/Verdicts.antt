@@ -1,6 +1,8 @@
 -- A verdict: its number, and the class and address that it names.
 use mathlib.Core.Bool.{Bool, not}
-use Prim.Native.Nat.{ℕ}
+use mathlib.Core.Logic.{_⊎_}
+use mathlib.Core.Path.{_≡_}
+use Prim.Native.Nat.{ℕ, _<_}
 use lib.Dec.{eqb}
 use Rattle.ground.specs.Chain.{orThen, scan}
 use Rattle.structure.specs.declared.Verdict.{Verdict}
@@ -22,3 +24,15 @@ andThen first second = orThen isBad first second
 -- the first bad verdict of n in ascending order
 abbrev pub ascending : ℕ → (ℕ → Verdict) → Verdict
 ascending n f = scan isBad pass n f
+
+-- where a verdict stands in the document's order: its stage, then its class, then what comes first within the class
+pub record Rank : Type 0 where
+  pub stage : ℕ
+  pub class : ℕ
+  pub inside : ℕ
+
+abbrev pub ranked : ℕ → ℕ → ℕ → Rank
+ranked s c i = record { stage = s; class = c; inside = i }
+
+abbrev pub InOrder : Rank → Rank → Type 0
+InOrder p q = (p .stage < q .stage) ⊎ ((p .stage ≡ q .stage) × ((p .class < q .class) ⊎ ((p .class ≡ q .class) × (p .inside < q .inside))))
