@@ -91,10 +91,10 @@ fn target_ok(code: u16, a: Addr) -> bool
     a.0 <= code
 }
 
-fn handler_ok(code: u16, a: Addr) -> bool
-    ensures { λ r. ⌜ r ≡ handlerOk code a ⌝ }
+fn handler_ok(code: u16, h: Addr) -> bool
+    ensures { λ r. ⌜ r ≡ handlerOk code h ⌝ }
 {
-    a.0 <= code
+    h.0 <= code
 }
 
 fn new_ok(classes: u8, code: u16, c: u8, h: Addr) -> bool
