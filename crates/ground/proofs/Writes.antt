@@ -1,5 +1,5 @@
 -- Laws of `setBelow` and `fillFrom`, the writing loops.
-use mathlib.Core.List.{List}
+use mathlib.Core.List.{List, [], _∷_}
 use mathlib.Core.Path.{_≡_, refl, _∙_}
 use mathlib.Core.Logic.{⊎-elim}
 use Prim.Native.Nat.{ℕ, zero, suc, _+_, _<_, _≤_}
@@ -86,3 +86,9 @@ fill-past a x l i (suc n) h k =
     ⊎-elim (λ q. rw q)
     (λ (m : i < suc n). rw (set-out (fillFrom a n x l) (a + n) x (rw (fill-length a x l n) (omega arith))) (fill-past a x l i n (omega arith) k))
     (eq-or-lt-of-le h)
+
+-- within the list the default is not read
+pub read-any : {A : Type 0} (l : List A) (i : ℕ) (d e : A) → i < length l → getD l i d ≡ getD l i e
+read-any [] i d e h = absurd (omega arith)
+read-any (x ∷ l) zero d e h = refl
+read-any (x ∷ l) (suc i) d e h = read-any l i d e (omega arith)

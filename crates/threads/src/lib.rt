@@ -50,7 +50,11 @@ pub fn entry(t: Thread, j: u8) -> Slot
     ensures { λ r. ⌜ r ≡ entryOf t j ⌝ }
 {
     let p = place(t.depth, j) as usize;
-    if p < 16 { t.stack[p] } else { values::zero_slot() }
+    if p < 16 {
+        t.stack[p]
+    } else {
+        values::zero_slot()
+    }
 }
 
 pub fn top(t: Thread) -> Slot
@@ -63,7 +67,11 @@ pub fn var(t: Thread, v: Var) -> Slot
     ensures { λ r. ⌜ r ≡ varOf t (v .0) ⌝ }
 {
     let i = v.0 as usize;
-    if i < 16 { t.vars[i] } else { values::zero_slot() }
+    if i < 16 {
+        t.vars[i]
+    } else {
+        values::zero_slot()
+    }
 }
 
 pub fn set_top(t: Thread, x: Slot) -> Thread

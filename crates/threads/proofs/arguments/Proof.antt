@@ -1,8 +1,8 @@
 use Rattle.threads.proofs.Places.{length-mapped}
-use Prim.Native.Nat.{_≤_, _-_, _+_}
+use Prim.Native.Nat.{_≤_, _-_}
 use mathlib.Core.Path.{_≡_, sym, _∙_}
 use mathlib.Core.Logic.{⊎-elim}
-use lib.ListN.{length, getD, replicate, length-replicate, List·getD-eq-default}
+use lib.ListN.{length, replicate, List·getD-eq-default}
 use native.Mathlib.Omega.{arith}
 use Rattle.ground.specs.Bounded.{setBelow}
 use Rattle.ground.proofs.Writes.{set-zero, set-more, set-past}

@@ -1,6 +1,5 @@
 use Rattle.threads.proofs.Places.{length-mapped}
 use mathlib.Core.Path.{_≡_, sym, _∙_}
-use Prim.Native.Nat.{_-_}
 use lib.ListN.{length, List·getD-eq-default}
 use native.Mathlib.Omega.{arith}
 use Rattle.values.specs.Values.{zeroSlot}

@@ -8,7 +8,6 @@ use mir.Val.{SFits}
 use borrow.Author.Tests.{eq-eqb, ne-eqb}
 use Rattle.values.specs.Values.{isPos}
 use Rattle.values.proofs.Values.{bits-is, inc-fits}
-use borrow.Author.Needs.{needs}
 use Rattle.values.proofs.inc.Statement.{statement}
 use Rattle.values.proofs.inc.Tie as tie
 

@@ -1,6 +1,5 @@
 use lib.Dec.{lit<}
 use Rattle.values.proofs.Values.{bits-is}
-use borrow.Author.Needs.{needs}
 use Rattle.values.proofs.isnt_zero.Statement.{statement}
 use Rattle.values.proofs.isnt_zero.Tie as tie
 
