@@ -1,9 +1,11 @@
 -- Laws of `setBelow` and `fillFrom`, the writing loops.
-use mathlib.Core.List.{List}
+use mathlib.Core.List.{List, [], _∷_}
 use mathlib.Core.Path.{_≡_, refl, _∙_}
+use mathlib.Core.Logic.{⊎-elim}
 use Prim.Native.Nat.{ℕ, zero, suc, _+_, _<_, _≤_}
 use lib.ListN.{length, getD, set, length-set}
-use lib.Seq.{getD-set-same, getD-set-other}
+use lib.Seq.{getD-set-same, getD-set-other, set-out}
+use native.Mathlib.Nat.{eq-or-lt-of-le}
 use native.Mathlib.Numerals.{add-one}
 use native.Mathlib.Omega.{arith}
 use native.Mathlib.Decide.{ℕ-discrete}
@@ -67,3 +69,26 @@ module _ {A : Type 0} (a : ℕ) (x : A) (l : List A) where
   unfolding fillFrom
   fill-out zero i d h = refl
   fill-out (suc n) i d h = getD-set-other (fillFrom a n x l) (a + n) i x d (λ q. omega (arith, h (omega arith))) ∙ fill-out n i d (λ k. omega (arith, h k))
+
+-- writes past the end change nothing: a loop may stop there
+pub set-past : {A : Type 0} (f : ℕ → A) (l : List A) (i n : ℕ) → i ≤ n → length l ≤ i → setBelow i f l ≡ setBelow n f l
+unfolding setBelow
+set-past f l i zero h k = let e : i ≡ 0 = omega arith in rw e
+set-past f l i (suc n) h k =
+    ⊎-elim (λ q. rw q)
+    (λ (m : i < suc n). rw (set-out (setBelow n f l) n (f n) (rw (set-length f l n) (omega arith))) (set-past f l i n (omega arith) k))
+    (eq-or-lt-of-le h)
+
+pub fill-past : {A : Type 0} (a : ℕ) (x : A) (l : List A) (i n : ℕ) → i ≤ n → length l ≤ a + i → fillFrom a i x l ≡ fillFrom a n x l
+unfolding fillFrom
+fill-past a x l i zero h k = let e : i ≡ 0 = omega arith in rw e
+fill-past a x l i (suc n) h k =
+    ⊎-elim (λ q. rw q)
+    (λ (m : i < suc n). rw (set-out (fillFrom a n x l) (a + n) x (rw (fill-length a x l n) (omega arith))) (fill-past a x l i n (omega arith) k))
+    (eq-or-lt-of-le h)
+
+-- within the list the default is not read
+pub read-any : {A : Type 0} (l : List A) (i : ℕ) (d e : A) → i < length l → getD l i d ≡ getD l i e
+read-any [] i d e h = absurd (omega arith)
+read-any (x ∷ l) zero d e h = refl
+read-any (x ∷ l) (suc i) d e h = read-any l i d e (omega arith)

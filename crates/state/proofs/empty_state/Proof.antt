@@ -1,0 +1,12 @@
+use borrow.Author.Needs.{needs}
+use Rattle.state.proofs.empty_state.Statement.{statement}
+use Rattle.state.proofs.empty_state.Tie as tie
+
+idle-requires : tie.Need-idle-requires
+idle-requires c κs = search needs
+
+returns : tie.Need-returns
+returns c = rw (c .idle .ensures)
+
+pub empty-state-spec : {M : Type 1} → statement M
+empty-state-spec = tie.close (tie.spec idle-requires returns)

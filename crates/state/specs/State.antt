@@ -1,0 +1,58 @@
+-- Document 01, the machine: eight thread numbers, 32 objects, one count for each thread and each object.
+use mathlib.Core.Bool.{Bool, true, false, cond, not, _&&_, _||_}
+use mathlib.Core.List.{List}
+use Prim.Native.Nat.{ℕ, _+_, _*_}
+use lib.Dec.{ltb, leb, eqb}
+use lib.ListN.{getD, set, replicate}
+use Rattle.ground.specs.Bounded.{allBelow, firstBelow, countBelow}
+use Rattle.threads.specs.declared.Thread.{Thread}
+use Rattle.threads.specs.Threads.{idle}
+use Rattle.state.specs.declared.State.{State}
+
+abbrev pub threadAt : State → ℕ → Thread
+threadAt s i = getD (s .threads) i idle
+
+-- the counts stand in one flat array: thread i's count of object o
+abbrev pub countOf : List ℕ → ℕ → ℕ → ℕ
+countOf counts i o = getD counts (i * 32 + o) 0
+
+-- the class of object o
+abbrev pub classOf : State → ℕ → ℕ
+classOf s o = getD (s .classes) o 0
+
+abbrev pub withThread : State → ℕ → Thread → State
+withThread s i t = record { threads = set (s .threads) i t; counts = s .counts; objects = s .objects; classes = s .classes }
+
+abbrev pub withCount : State → ℕ → ℕ → ℕ → State
+withCount s i o n = record { threads = s .threads; counts = set (s .counts) (i * 32 + o) n; objects = s .objects; classes = s .classes }
+
+-- the next object number, an object of class c (32 objects: past them nothing changes)
+unfoldable pub withObject : State → ℕ → State
+withObject s c =
+    cond (ltb (s .objects) 32) (record { threads = s .threads; counts = s .counts; objects = s .objects + 1; classes = set (s .classes) (s .objects) c }) s
+
+-- no live thread, no object, and all else 0
+abbrev pub emptyState : State
+emptyState = record { threads = replicate 8 idle; counts = replicate 256 0; objects = 0; classes = replicate 32 0 }
+
+-- thread j is i itself, or its count of o is 0
+abbrev pub freeOf : List ℕ → ℕ → ℕ → ℕ → Bool
+freeOf counts i o j = eqb j i || eqb (countOf counts j o) 0
+
+-- no other thread's count of o is above 0
+unfoldable pub othersFree : List ℕ → ℕ → ℕ → Bool
+othersFree counts i o = allBelow 8 (freeOf counts i o)
+
+abbrev pub isFree : List ℕ → ℕ → ℕ → Bool
+isFree counts i o = eqb (countOf counts i o) 0
+
+-- thread i's count is 0 for every object
+unfoldable pub holdsNothing : List ℕ → ℕ → Bool
+holdsNothing counts i = allBelow 32 (isFree counts i)
+
+abbrev pub notLive : State → ℕ → Bool
+notLive s i = not (threadAt s i .live)
+
+-- the lowest thread number that is free, 8 where there is none
+unfoldable pub lowestFree : State → ℕ
+lowestFree s = firstBelow 8 (notLive s)

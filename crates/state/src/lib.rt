@@ -1,0 +1,138 @@
+// The machine's state: eight thread numbers, 32 objects, one count for each thread and each object.
+ghost use mathlib.Core.Path.{_≡_};
+ghost use Rattle.state.specs.State.{threadAt, countOf, classOf, withThread, withCount, withObject, emptyState, freeOf, othersFree, isFree, holdsNothing, lowestFree};
+use threads::Thread;
+
+pub struct State {
+    pub threads: [Thread; 8],
+    pub counts: [u16; 256],
+    pub objects: u8,
+    pub classes: [u8; 32],
+}
+
+pub fn empty_state() -> State
+    ensures { λ r. ⌜ r ≡ emptyState ⌝ }
+{
+    let t = threads::idle();
+    State {
+        threads: [t; 8],
+        counts: [0u16; 256],
+        objects: 0,
+        classes: [0u8; 32],
+    }
+}
+
+pub fn thread(s: State, i: u8) -> Thread
+    ensures { λ r. ⌜ r ≡ threadAt s i ⌝ }
+{
+    let k = i as usize;
+    if k < 8 { s.threads[k] } else { threads::idle() }
+}
+
+pub fn count(counts: &[u16], i: u8, o: u8) -> u16
+    ensures { λ r. ⌜ r ≡ countOf (now (counts .entry)) i o ⌝ }
+{
+    let k = (i as usize) * 32 + (o as usize);
+    if k < counts.len() { counts[k] } else { 0 }
+}
+
+pub fn class_of(s: State, o: u8) -> u8
+    ensures { λ r. ⌜ r ≡ classOf s o ⌝ }
+{
+    let k = o as usize;
+    if k < 32 { s.classes[k] } else { 0 }
+}
+
+pub fn put_thread(s: State, i: u8, t: Thread) -> State
+    ensures { λ r. ⌜ r ≡ withThread s i t ⌝ }
+{
+    let mut next = s;
+    let k = i as usize;
+    if k < 8 {
+        next.threads[k] = t;
+        return next;
+    }
+    next
+}
+
+pub fn put_count(s: State, i: u8, o: u8, n: u16) -> State
+    ensures { λ r. ⌜ r ≡ withCount s i o n ⌝ }
+{
+    let mut next = s;
+    let k = (i as usize) * 32 + (o as usize);
+    if k < 256 {
+        next.counts[k] = n;
+        return next;
+    }
+    next
+}
+
+pub fn add_object(s: State, c: u8) -> State
+    ensures { λ r. ⌜ r ≡ withObject s c ⌝ }
+{
+    let mut next = s;
+    let o = s.objects;
+    let k = o as usize;
+    if o < 32 {
+        next.classes[k] = c;
+        next.objects = o + 1;
+        return next;
+    }
+    next
+}
+
+// Re-entry is no waiting: thread i itself never stands in its own way.
+fn free_of(counts: &[u16], i: u8, o: u8, j: u8) -> bool
+    ensures { λ r. ⌜ r ≡ freeOf (now (counts .entry)) i o j ⌝ }
+{
+    if j == i {
+        return true;
+    }
+    count(counts, j, o) == 0
+}
+
+pub fn others_free(counts: &[u16], i: u8, o: u8) -> bool
+    ensures { λ r. ⌜ r ≡ othersFree (now (counts .entry)) i o ⌝ }
+{
+    let mut j: u8 = 0;
+    while j < 8 {
+        if !free_of(counts, i, o, j) {
+            return false;
+        }
+        j += 1;
+    }
+    true
+}
+
+fn is_free(counts: &[u16], i: u8, o: u8) -> bool
+    ensures { λ r. ⌜ r ≡ isFree (now (counts .entry)) i o ⌝ }
+{
+    count(counts, i, o) == 0
+}
+
+pub fn holds_nothing(counts: &[u16], i: u8) -> bool
+    ensures { λ r. ⌜ r ≡ holdsNothing (now (counts .entry)) i ⌝ }
+{
+    let mut o: u8 = 0;
+    while o < 32 {
+        if !is_free(counts, i, o) {
+            return false;
+        }
+        o += 1;
+    }
+    true
+}
+
+pub fn lowest_free(s: State) -> u8
+    ensures { λ r. ⌜ r ≡ lowestFree s ⌝ }
+{
+    let mut i: u8 = 0;
+    while i < 8 {
+        let k = i as usize;
+        if !s.threads[k].live {
+            return i;
+        }
+        i += 1;
+    }
+    i
+}

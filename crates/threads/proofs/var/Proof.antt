@@ -1,0 +1,34 @@
+use Rattle.threads.proofs.Places.{length-mapped}
+use mathlib.Core.Path.{_≡_, sym, _∙_}
+use lib.ListN.{length, List·getD-eq-default}
+use native.Mathlib.Omega.{arith}
+use Rattle.values.specs.Values.{zeroSlot}
+use borrow.Author.Needs.{needs}
+use Rattle.threads.proofs.var.Statement.{statement}
+use Rattle.threads.proofs.var.Tie as tie
+
+cast-i : tie.Need-cast-i
+cast-i c = search needs
+
+mul-result : tie.Need-mul-result
+mul-result c = search needs
+
+element-copy-out-result : tie.Need-element-copy-out-result
+element-copy-out-result c = search needs
+
+zero-slot-requires : tie.Need-zero-slot-requires
+zero-slot-requires c κs = search needs
+
+returns : tie.Need-returns
+returns c = search needs
+
+returns-2 : tie.Need-returns-2
+returns-2 c =
+    let t = c .before .before .before .args .t1 in
+    let l : length (t .vars) ≡ 16 = search (needs, length-mapped) in
+    c .zero-slot .ensures ∙ sym (List·getD-eq-default (t .vars) zeroSlot (omega arith))
+
+pub var-spec : {M : Type 1} → statement M
+var-spec =
+    tie.close
+    (tie.spec cast-i mul-result element-copy-out-result zero-slot-requires returns returns-2)

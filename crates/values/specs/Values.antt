@@ -1,0 +1,65 @@
+-- Document 01, the machine: values are 32-bit signed integers or references; inc wraps; `if` jumps on a value that isn't 0.
+use mathlib.Core.Bool.{Bool, true, false, cond, not}
+use Prim.Native.Nat.{ℕ}
+use lib.Dec.{ltb, eqb}
+use lib.IntN.{ℤ, pos, negsuc, _+ℤ_}
+use Rattle.values.specs.declared.Value.{Value}
+use Rattle.values.specs.declared.Value.the-variants.{Int, Ref}
+use Rattle.values.specs.declared.Slot.{Slot}
+
+abbrev pub isPos : ℕ → ℤ → Bool
+isPos m (pos n) = eqb n m
+isPos m (negsuc n) = false
+
+-- one more, and -2147483648 after 2147483647
+abbrev pub incOf : ℤ → ℤ
+incOf z = cond (isPos 2147483647 z) (negsuc 2147483647) (z +ℤ pos 1)
+
+abbrev pub slot : Value → Slot
+slot v = record { value = v }
+
+-- integer 0: what a place that is not in use becomes
+abbrev pub zeroSlot : Slot
+zeroSlot = slot (Int (pos 0))
+
+abbrev pub refSlot : ℕ → Slot
+refSlot o = slot (Ref o)
+
+abbrev pub isIntValue : Value → Bool
+isIntValue (Int z) = true
+isIntValue (Ref o) = false
+
+-- the slot holds an integer; what does not holds a reference
+abbrev pub isInt : Slot → Bool
+isInt x = isIntValue (x .value)
+
+abbrev pub objectOfValue : Value → ℕ
+objectOfValue (Int z) = 0
+objectOfValue (Ref o) = o
+
+-- the object that the slot refers to, 0 for an integer
+abbrev pub objectOf : Slot → ℕ
+objectOf x = objectOfValue (x .value)
+
+abbrev pub incValue : Value → Value
+incValue (Int z) = Int (incOf z)
+incValue (Ref o) = Ref o
+
+abbrev pub incSlot : Slot → Slot
+incSlot x = slot (incValue (x .value))
+
+abbrev pub jumpsValue : Value → Bool
+jumpsValue (Int z) = not (isPos 0 z)
+jumpsValue (Ref o) = false
+
+-- `if` jumps on an integer that isn't 0
+abbrev pub jumps : Slot → Bool
+jumps x = jumpsValue (x .value)
+
+abbrev pub refersValue : ℕ → Value → Bool
+refersValue objects (Int z) = true
+refersValue objects (Ref o) = ltb o objects
+
+-- the slot is no reference to no object
+abbrev pub refers : ℕ → Slot → Bool
+refers objects x = refersValue objects (x .value)

@@ -1,0 +1,100 @@
+// A value of the machine, and what the instructions do with one.
+ghost use mathlib.Core.Path.{_≡_};
+ghost use mathlib.Core.Bool.{not};
+ghost use Rattle.values.specs.Values.{incOf, isPos, zeroSlot, refSlot, isInt, objectOf, incValue, incSlot, jumps, refers};
+
+pub enum Value {
+    Int(i32),
+    Ref(u8),
+}
+
+// A place that holds a value.
+pub struct Slot {
+    pub value: Value,
+}
+
+pub fn zero_slot() -> Slot
+    ensures { λ r. ⌜ r ≡ zeroSlot ⌝ }
+{
+    Slot {
+        value: Value::Int(0),
+    }
+}
+
+pub fn ref_slot(o: u8) -> Slot
+    ensures { λ r. ⌜ r ≡ refSlot o ⌝ }
+{
+    Slot {
+        value: Value::Ref(o),
+    }
+}
+
+pub fn is_int(x: Slot) -> bool
+    ensures { λ r. ⌜ r ≡ isInt x ⌝ }
+{
+    let v = x.value;
+    match v {
+        Value::Int(_) => true,
+        Value::Ref(_) => false,
+    }
+}
+
+pub fn object_of(x: Slot) -> u8
+    ensures { λ r. ⌜ r ≡ objectOf x ⌝ }
+{
+    let v = x.value;
+    match v {
+        Value::Int(_) => 0,
+        Value::Ref(o) => o,
+    }
+}
+
+// inc wraps
+fn inc(x: i32) -> i32
+    ensures { λ r. ⌜ r ≡ incOf x ⌝ }
+{
+    if x == 2147483647 { -2147483648 } else { x + 1 }
+}
+
+fn inc_value(v: Value) -> Value
+    ensures { λ r. ⌜ r ≡ incValue v ⌝ }
+{
+    match v {
+        Value::Int(x) => Value::Int(inc(x)),
+        Value::Ref(o) => Value::Ref(o),
+    }
+}
+
+pub fn inc_slot(x: Slot) -> Slot
+    ensures { λ r. ⌜ r ≡ incSlot x ⌝ }
+{
+    let v = x.value;
+    let w = inc_value(v);
+    Slot { value: w }
+}
+
+fn isnt_zero(x: i32) -> bool
+    ensures { λ r. ⌜ r ≡ not (isPos 0 x) ⌝ }
+{
+    x != 0
+}
+
+pub fn jumps(x: Slot) -> bool
+    ensures { λ r. ⌜ r ≡ jumps x ⌝ }
+{
+    let v = x.value;
+    match v {
+        Value::Int(z) => isnt_zero(z),
+        Value::Ref(_) => false,
+    }
+}
+
+pub fn refers(objects: u8, x: Slot) -> bool
+    ensures { λ r. ⌜ r ≡ refers objects x ⌝ }
+{
+    let v = x.value;
+    match v {
+        Value::Int(_) => true,
+        Value::Ref(o) => o < objects,
+    }
+}
