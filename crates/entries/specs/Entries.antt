@@ -1,0 +1,98 @@
+-- Document 01, types and pairs: what four bytes are, in a bundle of n classes. Ends are kept as stored, with 64 added, so that they are natural numbers.
+use mathlib.Core.Bool.{Bool, true, false, cond, _&&_}
+use Prim.Native.Nat.{ℕ}
+use lib.Dec.{leb, ltb, eqb}
+use Rattle.ground.specs.Chain.{refuse}
+use Rattle.entries.specs.declared.Entry.{Entry}
+use Rattle.entries.specs.declared.Entry.the-variants.{Int, Top, Ref, Blank, Malformed}
+
+-- the greatest dip, the least and the greatest end
+abbrev pub maxDip : ℕ
+maxDip = 63
+
+abbrev pub minEnd : ℕ
+minEnd = 1
+
+abbrev pub maxEnd : ℕ
+maxEnd = 127
+
+-- an end of 0
+abbrev pub noEnd : ℕ
+noEnd = 64
+
+-- ..,0,0,0
+unfoldable pub zeros : ℕ → ℕ → ℕ → Bool
+zeros c d e = eqb c 0 && eqb d 0 && eqb e 0
+
+-- one of the bundle's classes; the dip d is 0..63; the end e is -63..63
+unfoldable pub pairOk : ℕ → ℕ → ℕ → ℕ → Bool
+pairOk n c d e = ltb c n && leb d maxDip && leb minEnd e && leb e maxEnd
+
+-- 1,0,0,0 is Int; 2,0,0,0 is Top; 3, class, d, e+64 is a reference; 0,0,0,0 stands below the depth in use; any other four bytes are malformed
+unfoldable pub entryOf : ℕ → ℕ → ℕ → ℕ → ℕ → Entry
+entryOf n kind c d e =
+    cond (eqb kind 0) (refuse (zeros c d e) Malformed Blank)
+    (cond (eqb kind 1) (refuse (zeros c d e) Malformed Int)
+    (cond (eqb kind 2) (refuse (zeros c d e) Malformed Top)
+    (cond (eqb kind 3) (refuse (pairOk n c d e) Malformed (Ref c d e))
+    Malformed)))
+
+-- Int and Top weigh d = 0, e = 0
+abbrev pub dipOf : Entry → ℕ
+dipOf Int = 0
+dipOf Top = 0
+dipOf (Ref c d e) = d
+dipOf Blank = 0
+dipOf Malformed = 0
+
+abbrev pub endOf : Entry → ℕ
+endOf Int = noEnd
+endOf Top = noEnd
+endOf (Ref c d e) = e
+endOf Blank = noEnd
+endOf Malformed = noEnd
+
+abbrev pub isInt : Entry → Bool
+isInt Int = true
+isInt Top = false
+isInt (Ref c d e) = false
+isInt Blank = false
+isInt Malformed = false
+
+abbrev pub isTop : Entry → Bool
+isTop Int = false
+isTop Top = true
+isTop (Ref c d e) = false
+isTop Blank = false
+isTop Malformed = false
+
+abbrev pub isBlank : Entry → Bool
+isBlank Int = false
+isBlank Top = false
+isBlank (Ref c d e) = false
+isBlank Blank = true
+isBlank Malformed = false
+
+-- Int, Top or a reference: what a variable and a stack entry in use must be
+abbrev pub isType : Entry → Bool
+isType Int = true
+isType Top = true
+isType (Ref c d e) = true
+isType Blank = false
+isType Malformed = false
+
+-- a reference of class c
+abbrev pub isOf : ℕ → Entry → Bool
+isOf c Int = false
+isOf c Top = false
+isOf c (Ref c′ d e) = eqb c c′
+isOf c Blank = false
+isOf c Malformed = false
+
+-- argument descriptors: FF is Int, otherwise a class number. An argument as its type: Int, or its class with (0,0)
+unfoldable pub argumentEntry : ℕ → Entry
+argumentEntry descriptor = cond (eqb descriptor 255) Int (Ref descriptor 0 noEnd)
+
+-- an entry that matches a descriptor: Int, or a reference of that class
+unfoldable pub matches : ℕ → Entry → Bool
+matches descriptor x = cond (eqb descriptor 255) (isInt x) (isOf descriptor x)
