@@ -11,9 +11,13 @@ use Rattle.entries.specs.Entries.{entryOf}
 unfoldable pub entryAt : ℕ → List ℕ → ℕ → Entry
 entryAt n r p = entryOf n (at r p) (at r (p + 1)) (at r (p + 2)) (at r (p + 3))
 
--- n argument descriptors; k instructions of four bytes; k rows: where the row of address l begins
+-- n argument descriptors; k instructions of four bytes; k rows: where a row begins that i rows come before
+unfoldable pub startBehind : Class → ℕ → ℕ
+startBehind k i = k .args + 4 * k .code + i * width k
+
+-- addresses run from 1
 unfoldable pub rowStart : Class → ℕ → ℕ
-rowStart k l = k .args + 4 * k .code + (l - 1) * width k
+rowStart k l = startBehind k (l - 1)
 
 -- the entry of variable i in a row that begins at s
 unfoldable pub variableAt : ℕ → List ℕ → ℕ → ℕ → Entry

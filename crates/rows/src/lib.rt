@@ -1,7 +1,7 @@
 // A row as it stands in the bundle, read entry by entry from a record and numbers. Every read is total; a place is a u32, so that no sum wraps.
 ghost use mathlib.Core.Path.{_≡_};
-ghost use Prim.Native.Nat.{_-_, _≤_};
-ghost use Rattle.rows.specs.Rows.{entryAt, rowStart, variableAt, depthAt, stackAt};
+ghost use Prim.Native.Nat.{_+_, _≤_};
+ghost use Rattle.rows.specs.Rows.{entryAt, startBehind, rowStart, variableAt, depthAt, stackAt};
 use bundle::Class;
 use entries::Entry;
 use instructions::Addr;
@@ -23,21 +23,28 @@ fn entry_at(n: u8, r: &[u8], p: usize) -> Entry
     )
 }
 
-// How many addresses come before l; none before address 0.
-fn rows_above(l: Addr) -> u32
-    ensures { λ i. ⌜ (i ≡ l .0 - 1) × (i ≤ 65534) ⌝ }
+// Where a row begins that i rows come before.
+fn start_behind(k: Class, i: u16) -> u32
+    ensures { λ s. ⌜ s ≡ startBehind k i ⌝ }
 {
-    if l.0 < 1 {
-        return 0;
-    }
-    (l.0 - 1) as u32
+    k.args as u32 + 4 * (k.code as u32) + (i as u32) * (bundle::width(k) as u32)
 }
 
 // Where the row of address l begins in a record.
 pub fn row_start(k: Class, l: Addr) -> u32
     ensures { λ s. ⌜ s ≡ rowStart k (l .0) ⌝ }
 {
-    k.args as u32 + 4 * (k.code as u32) + rows_above(l) * (bundle::width(k) as u32)
+    if l.0 < 1 {
+        return start_behind(k, 0);
+    }
+    start_behind(k, l.0 - 1)
+}
+
+// .. and the row of the address after l.
+pub fn next_start(k: Class, l: Addr) -> u32
+    ensures { λ s. ⌜ s ≡ rowStart k (l .0 + 1) ⌝ }
+{
+    start_behind(k, l.0)
 }
 
 pub fn variable_at(n: u8, r: &[u8], s: u32, i: u8) -> Entry
