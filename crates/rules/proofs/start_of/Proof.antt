@@ -1,0 +1,20 @@
+use Rattle.bundle.specs.Program.{programOf, methodAt, methodOf}
+use borrow.Author.Needs.{needs}
+use Rattle.rules.proofs.start_of.Statement.{statement}
+use Rattle.rules.proofs.start_of.Tie as tie
+
+class-at-requires : tie.Need-class-at-requires
+class-at-requires c κs = search needs
+
+part-of-requires : tie.Need-part-of-requires
+part-of-requires c κs = search needs
+
+start-rule-requires : tie.Need-start-rule-requires
+start-rule-requires c κs = search needs
+
+returns : tie.Need-returns
+unfolding programOf methodAt methodOf
+returns c = rw (← c .before .before .class-at .ensures, ← c .before .part-of .ensures) (c .start-rule .ensures)
+
+pub start-of-spec : {M : Type 1} → statement M
+start-of-spec = tie.close (tie.spec class-at-requires part-of-requires start-rule-requires returns)
