@@ -1,0 +1,25 @@
+use Rattle.verifier.specs.Verdict.{formsOfClass}
+use borrow.Author.Needs.{needs}
+use Rattle.verifier.proofs.forms_of_class.Statement.{statement}
+use Rattle.verifier.proofs.forms_of_class.Tie as tie
+
+class-at-requires : tie.Need-class-at-requires
+class-at-requires c κs = search needs
+
+classes-requires : tie.Need-classes-requires
+classes-requires c κs = search needs
+
+part-of-requires : tie.Need-part-of-requires
+part-of-requires c κs = search needs
+
+forms-of-requires : tie.Need-forms-of-requires
+forms-of-requires c κs = search needs
+
+returns : tie.Need-returns
+unfolding formsOfClass
+returns c = rw (← c .before .before .before .class-at .ensures, ← c .before .before .classes .ensures, ← c .before .part-of .ensures) (c .forms-of .ensures)
+
+pub forms-of-class-spec : {M : Type 1} → statement M
+forms-of-class-spec =
+    tie.close
+    (tie.spec class-at-requires classes-requires part-of-requires forms-of-requires returns)

@@ -1,0 +1,25 @@
+use Rattle.verifier.specs.Verdict.{rulesOfClass}
+use borrow.Author.Needs.{needs}
+use Rattle.verifier.proofs.rules_of_class.Statement.{statement}
+use Rattle.verifier.proofs.rules_of_class.Tie as tie
+
+class-at-requires : tie.Need-class-at-requires
+class-at-requires c κs = search needs
+
+classes-requires : tie.Need-classes-requires
+classes-requires c κs = search needs
+
+part-of-requires : tie.Need-part-of-requires
+part-of-requires c κs = search needs
+
+rules-of-requires : tie.Need-rules-of-requires
+rules-of-requires c κs = search needs
+
+returns : tie.Need-returns
+unfolding rulesOfClass
+returns c = rw (← c .before .before .before .class-at .ensures, ← c .before .before .classes .ensures, ← c .before .part-of .ensures) (c .rules-of .ensures)
+
+pub rules-of-class-spec : {M : Type 1} → statement M
+rules-of-class-spec =
+    tie.close
+    (tie.spec class-at-requires classes-requires part-of-requires rules-of-requires returns)
