@@ -1,0 +1,80 @@
+-- Document 01, answer 18: when a state is one of a bundle.
+use mathlib.Core.Bool.{Bool, _&&_, _||_, not}
+use mathlib.Core.List.{List}
+use Prim.Native.Nat.{ℕ}
+use lib.Dec.{ltb, leb, eqb}
+use lib.ListN.{getD}
+use Rattle.ground.specs.Bounded.{allBelow, countBelow}
+use Rattle.bundle.specs.Program.{Method, Program}
+use Rattle.values.specs.Values.{zeroSlot, refers}
+use Rattle.values.specs.declared.Slot.{Slot}
+use Rattle.threads.specs.declared.Thread.{Thread}
+use Rattle.state.specs.declared.State.{State}
+use Rattle.state.specs.State.{threadAt, countOf, classOf, isFree}
+
+abbrev pub placeRefers : ℕ → List Slot → ℕ → Bool
+placeRefers objects l i = refers objects (getD l i zeroSlot)
+
+-- no reference to no object in the first n places
+unfoldable pub placesRefer : ℕ → List Slot → ℕ → Bool
+placesRefer objects l n = allBelow n (placeRefers objects l)
+
+-- address and depth in range, and the references in use: variables below V, stack places within the depth
+unfoldable pub placedOk : Method → ℕ → Thread → Bool
+placedOk m objects t =
+    leb 1 (t .at .0)
+    && leb (t .at .0) (m .code)
+    && leb (t .depth) (m .limit)
+    && placesRefer objects (t .vars) (m .vars)
+    && placesRefer objects (t .stack) (t .depth)
+
+-- a live thread's class in range, and its place in that class's method
+unfoldable pub liveOk : Program → ℕ → Thread → Bool
+liveOk P objects t = ltb (t .class) (P .classes) && placedOk (P .method (t .class)) objects t
+
+-- a thread that isn't live may hold any class, address, depth and values
+unfoldable pub threadOk : Program → ℕ → Thread → Bool
+threadOk P objects t = not (t .live) || liveOk P objects t
+
+abbrev pub threadOkAt : Program → State → ℕ → Bool
+threadOkAt P s i = threadOk P (s .objects) (threadAt s i)
+
+unfoldable pub threadsOk : Program → State → Bool
+threadsOk P s = allBelow 8 (threadOkAt P s)
+
+abbrev pub objectOk : Program → State → ℕ → Bool
+objectOk P s o = ltb (classOf s o) (P .classes)
+
+-- no more than 32 objects, each of a class of the bundle
+unfoldable pub objectsOk : Program → State → Bool
+objectsOk P s = leb (s .objects) 32 && allBelow (s .objects) (objectOk P s)
+
+-- a count is at most 2,047, and above 0 only on an object and at a live thread
+unfoldable pub countOk : ℕ → Bool → ℕ → ℕ → Bool
+countOk objects live o n = eqb n 0 || (leb n 2047 && ltb o objects && live)
+
+abbrev pub countOkAt : List ℕ → ℕ → Bool → ℕ → ℕ → Bool
+countOkAt counts objects live i o = countOk objects live o (countOf counts i o)
+
+unfoldable pub threadCountsOk : List ℕ → ℕ → Bool → ℕ → Bool
+threadCountsOk counts objects live i = allBelow 32 (countOkAt counts objects live i)
+
+abbrev pub threadCountsOkAt : State → ℕ → Bool
+threadCountsOkAt s i = threadCountsOk (s .counts) (s .objects) (threadAt s i .live) i
+
+unfoldable pub countsOk : State → Bool
+countsOk s = allBelow 8 (threadCountsOkAt s)
+
+abbrev pub holdsAt : List ℕ → ℕ → ℕ → Bool
+holdsAt counts o i = not (isFree counts i o)
+
+-- at most one thread holds object o
+unfoldable pub soleHolder : List ℕ → ℕ → Bool
+soleHolder counts o = leb (countBelow 8 (holdsAt counts o)) 1
+
+unfoldable pub soleHolders : List ℕ → Bool
+soleHolders counts = allBelow 32 (soleHolder counts)
+
+-- the state is one of this bundle
+unfoldable pub stateOk : Program → State → Bool
+stateOk P s = objectsOk P s && threadsOk P s && countsOk s && soleHolders (s .counts)
