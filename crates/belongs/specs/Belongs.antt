@@ -5,12 +5,12 @@ use Prim.Native.Nat.{ℕ}
 use lib.Dec.{ltb, leb, eqb}
 use lib.ListN.{getD}
 use Rattle.ground.specs.Bounded.{allBelow, countBelow}
-use Rattle.bundle.specs.Program.{Method, Program}
+use Rattle.bundle.specs.Program.{Program}
 use Rattle.values.specs.Values.{zeroSlot, refers}
 use Rattle.values.specs.declared.Slot.{Slot}
 use Rattle.threads.specs.declared.Thread.{Thread}
 use Rattle.state.specs.declared.State.{State}
-use Rattle.state.specs.State.{threadAt, countOf, classOf, isFree}
+use Rattle.state.specs.State.{threadAt, countOf, isFree}
 
 abbrev pub placeRefers : ℕ → List Slot → ℕ → Bool
 placeRefers objects l i = refers objects (getD l i zeroSlot)
@@ -20,17 +20,19 @@ unfoldable pub placesRefer : ℕ → List Slot → ℕ → Bool
 placesRefer objects l n = allBelow n (placeRefers objects l)
 
 -- address and depth in range, and the references in use: variables below V, stack places within the depth
-unfoldable pub placedOk : Method → ℕ → Thread → Bool
-placedOk m objects t =
+unfoldable pub placedOk : ℕ → ℕ → ℕ → ℕ → Thread → Bool
+placedOk code limit vars objects t =
     leb 1 (t .at .0)
-    && leb (t .at .0) (m .code)
-    && leb (t .depth) (m .limit)
-    && placesRefer objects (t .vars) (m .vars)
+    && leb (t .at .0) code
+    && leb (t .depth) limit
+    && placesRefer objects (t .vars) vars
     && placesRefer objects (t .stack) (t .depth)
 
 -- a live thread's class in range, and its place in that class's method
 unfoldable pub liveOk : Program → ℕ → Thread → Bool
-liveOk P objects t = ltb (t .class) (P .classes) && placedOk (P .method (t .class)) objects t
+liveOk P objects t =
+    let m = P .method (t .class) in
+    ltb (t .class) (P .classes) && placedOk (m .code) (m .limit) (m .vars) objects t
 
 -- a thread that isn't live may hold any class, address, depth and values
 unfoldable pub threadOk : Program → ℕ → Thread → Bool
@@ -42,12 +44,12 @@ threadOkAt P s i = threadOk P (s .objects) (threadAt s i)
 unfoldable pub threadsOk : Program → State → Bool
 threadsOk P s = allBelow 8 (threadOkAt P s)
 
-abbrev pub objectOk : Program → State → ℕ → Bool
-objectOk P s o = ltb (classOf s o) (P .classes)
+abbrev pub objectOk : Program → List ℕ → ℕ → Bool
+objectOk P classes o = ltb (getD classes o 0) (P .classes)
 
 -- no more than 32 objects, each of a class of the bundle
-unfoldable pub objectsOk : Program → State → Bool
-objectsOk P s = leb (s .objects) 32 && allBelow (s .objects) (objectOk P s)
+unfoldable pub objectsOk : Program → ℕ → List ℕ → Bool
+objectsOk P objects classes = leb objects 32 && allBelow objects (objectOk P classes)
 
 -- a count is at most 2,047, and above 0 only on an object and at a live thread
 unfoldable pub countOk : ℕ → Bool → ℕ → ℕ → Bool
@@ -72,9 +74,14 @@ holdsAt counts o i = not (isFree counts i o)
 unfoldable pub soleHolder : List ℕ → ℕ → Bool
 soleHolder counts o = leb (countBelow 8 (holdsAt counts o)) 1
 
-unfoldable pub soleHolders : List ℕ → Bool
-soleHolders counts = allBelow 32 (soleHolder counts)
+-- so of each object (a count on no object is `countOk`'s)
+unfoldable pub soleHolders : List ℕ → ℕ → Bool
+soleHolders counts objects = allBelow objects (soleHolder counts)
 
 -- the state is one of this bundle
 unfoldable pub stateOk : Program → State → Bool
-stateOk P s = objectsOk P s && threadsOk P s && countsOk s && soleHolders (s .counts)
+stateOk P s =
+    objectsOk P (s .objects) (s .classes)
+    && threadsOk P s
+    && countsOk s
+    && soleHolders (s .counts) (s .objects)

@@ -1,1 +1,193 @@
 // Answer 18 of document 01: whether a state is one of a bundle.
+ghost use mathlib.Core.Path.{_≡_};
+ghost use mathlib.Core.Bool.{cond};
+ghost use Rattle.bundle.specs.Program.{programOf};
+ghost use Rattle.belongs.specs.Belongs.{placesRefer, placedOk, liveOk, threadOk, threadsOk, objectsOk, countOk, threadCountsOk, countsOk, holdsAt, soleHolder, soleHolders, stateOk};
+use bundle::Class;
+use state::State;
+use threads::Thread;
+use values::Slot;
+
+// Past the sixteenth place there is integer 0.
+fn places_refer(objects: u8, l: [Slot; 16], n: u8) -> bool
+    ensures { λ r. ⌜ r ≡ placesRefer objects l n ⌝ }
+{
+    let mut i: u8 = 0;
+    while i < n {
+        let k = i as usize;
+        if 16 <= k {
+            return true;
+        }
+        if !values::refers(objects, l[k]) {
+            return false;
+        }
+        i += 1;
+    }
+    true
+}
+
+fn placed_ok(k: Class, objects: u8, t: Thread) -> bool
+    ensures { λ r. ⌜ r ≡ placedOk (k .code) (k .limit) (k .vars) objects t ⌝ }
+{
+    let at = t.at.0;
+    if at < 1 {
+        return false;
+    }
+    if k.code < at {
+        return false;
+    }
+    if k.limit < t.depth {
+        return false;
+    }
+    let vars = t.vars;
+    if !places_refer(objects, vars, k.vars) {
+        return false;
+    }
+    let stack = t.stack;
+    places_refer(objects, stack, t.depth)
+}
+
+fn live_ok(b: &[u8], objects: u8, t: Thread) -> bool
+    ensures { λ r. ⌜ r ≡ liveOk (programOf (now (b .entry))) objects t ⌝ }
+{
+    if bundle::classes(b) <= t.class {
+        return false;
+    }
+    placed_ok(bundle::class_at(b, t.class), objects, t)
+}
+
+fn thread_ok(b: &[u8], objects: u8, t: Thread) -> bool
+    ensures { λ r. ⌜ r ≡ threadOk (programOf (now (b .entry))) objects t ⌝ }
+{
+    if !t.live {
+        return true;
+    }
+    live_ok(b, objects, t)
+}
+
+fn threads_ok(b: &[u8], s: State) -> bool
+    ensures { λ r. ⌜ r ≡ threadsOk (programOf (now (b .entry))) s ⌝ }
+{
+    let mut i: u8 = 0;
+    while i < 8 {
+        let k = i as usize;
+        let t = s.threads[k];
+        if !thread_ok(b, s.objects, t) {
+            return false;
+        }
+        i += 1;
+    }
+    true
+}
+
+fn objects_ok(b: &[u8], objects: u8, classes: &[u8]) -> bool
+    ensures { λ r. ⌜ r ≡ objectsOk (programOf (now (b .entry))) objects (now (classes .entry)) ⌝ }
+{
+    if 32 < objects {
+        return false;
+    }
+    let n = bundle::classes(b);
+    let mut o: u8 = 0;
+    while o < objects {
+        if n <= ground::byte(classes, o as usize) {
+            return false;
+        }
+        o += 1;
+    }
+    true
+}
+
+// Most counts are 0: that is asked first.
+fn count_ok(objects: u8, live: bool, o: u8, n: u16) -> bool
+    ensures { λ r. ⌜ r ≡ countOk objects live o n ⌝ }
+{
+    if n == 0 {
+        return true;
+    }
+    if 2047 < n {
+        return false;
+    }
+    if objects <= o {
+        return false;
+    }
+    live
+}
+
+fn thread_counts_ok(counts: &[u16], objects: u8, live: bool, i: u8) -> bool
+    ensures { λ r. ⌜ r ≡ threadCountsOk (now (counts .entry)) objects live i ⌝ }
+{
+    let mut o: u8 = 0;
+    while o < 32 {
+        if !count_ok(objects, live, o, state::count(counts, i, o)) {
+            return false;
+        }
+        o += 1;
+    }
+    true
+}
+
+fn counts_ok(s: State) -> bool
+    ensures { λ r. ⌜ r ≡ countsOk s ⌝ }
+{
+    let mut i: u8 = 0;
+    while i < 8 {
+        let k = i as usize;
+        let live = s.threads[k].live;
+        if !thread_counts_ok(&s.counts, s.objects, live, i) {
+            return false;
+        }
+        i += 1;
+    }
+    true
+}
+
+// 1 for a thread that holds the object, and 0 for another.
+fn holds(counts: &[u16], o: u8, i: u8) -> u8
+    ensures { λ r. ⌜ r ≡ cond (holdsAt (now (counts .entry)) o i) 1 0 ⌝ }
+{
+    if state::count(counts, i, o) == 0 {
+        0
+    } else {
+        1
+    }
+}
+
+fn sole_holder(counts: &[u16], o: u8) -> bool
+    ensures { λ r. ⌜ r ≡ soleHolder (now (counts .entry)) o ⌝ }
+{
+    let mut n: u8 = 0;
+    let mut i: u8 = 0;
+    while i < 8 {
+        n += holds(counts, o, i);
+        i += 1;
+    }
+    n <= 1
+}
+
+fn sole_holders(counts: &[u16], objects: u8) -> bool
+    ensures { λ r. ⌜ r ≡ soleHolders (now (counts .entry)) objects ⌝ }
+{
+    let mut o: u8 = 0;
+    while o < objects {
+        if !sole_holder(counts, o) {
+            return false;
+        }
+        o += 1;
+    }
+    true
+}
+
+pub fn state_ok(b: &[u8], s: State) -> bool
+    ensures { λ r. ⌜ r ≡ stateOk (programOf (now (b .entry))) s ⌝ }
+{
+    if !objects_ok(b, s.objects, &s.classes) {
+        return false;
+    }
+    if !threads_ok(b, s) {
+        return false;
+    }
+    if !counts_ok(s) {
+        return false;
+    }
+    sole_holders(&s.counts, s.objects)
+}

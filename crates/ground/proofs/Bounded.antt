@@ -6,7 +6,7 @@ use Prim.Native.Nat.{ℕ, zero, suc, _+_, _<_, _≤_}
 use native.Mathlib.Nat.{le-of-suc-le-suc, not-suc-le-zero, eq-or-lt-of-le, le-antisymm}
 use native.Mathlib.Numerals.{add-one}
 use native.Mathlib.Omega.{arith}
-use native.Mathlib.Decide.{ℕ-discrete}
+use native.Mathlib.Decide.{ℕ-discrete, decLt}
 use Rattle.ground.specs.Bounded.{allBelow, firstBelow, countBelow}
 use Rattle.ground.proofs.Bools.{and-fst, and-snd, and-false, never}
 
@@ -44,6 +44,14 @@ module _ (p : ℕ → Bool) where
   unfolding allBelow
   all-intro zero h = refl
   all-intro (suc n) h = rw (all-intro n (λ i l. h i (omega arith)), h n (omega arith))
+
+  -- a loop may stop at i where p holds of all that follow
+  pub all-from : (n i : ℕ) → allBelow i p ≡ true → ((j : ℕ) → i ≤ j → p j ≡ true) → allBelow n p ≡ true
+  all-from n i a h = all-intro n (λ j l. go j (decLt j i))
+    where
+      go : (j : ℕ) → Dec (j < i) → p j ≡ true
+      go j (yes k) = all-elim i a j k
+      go j (no k) = h j (omega arith)
 
   -- where it fails, some number below n fails
   pub all-some : (n : ℕ) → allBelow n p ≡ false → (i : ℕ) × (i < n) × (p i ≡ false)
@@ -111,3 +119,41 @@ module _ (p : ℕ → Bool) where
       go : (t : Bool) → countBelow n p ≤ n → countBelow n p + cond t 1 0 ≤ suc n
       go true h = omega arith
       go false h = omega arith
+
+  pub count-none : (n : ℕ) → ((i : ℕ) → i < n → p i ≡ false) → countBelow n p ≡ 0
+  unfolding countBelow
+  count-none zero h = refl
+  count-none (suc n) h = rw (count-none n (λ i l. h i (omega arith)), h n (omega arith))
+
+  pub count-some : (n i : ℕ) → i < n → p i ≡ true → 1 ≤ countBelow n p
+  unfolding countBelow
+  count-some zero i l e = absurd (not-suc-le-zero l)
+  count-some (suc n) i l e = go (ℕ-discrete i n) (count-some n i)
+    where
+      go : Dec (i ≡ n) → (i < n → p i ≡ true → 1 ≤ countBelow n p) → 1 ≤ countBelow n p + cond (p n) 1 0
+      go (yes q) ih = rw (rw q at e) (omega arith)
+      go (no q) ih = omega (arith, ih (omega arith) e)
+
+  -- p holds of two different numbers
+  pub count-two : (n i j : ℕ) → i < j → j < n → p i ≡ true → p j ≡ true → 2 ≤ countBelow n p
+  unfolding countBelow
+  count-two zero i j l k d e = absurd (not-suc-le-zero k)
+  count-two (suc n) i j l k d e = go (ℕ-discrete j n) (count-two n i j l)
+    where
+      go : Dec (j ≡ n) → (j < n → p i ≡ true → p j ≡ true → 2 ≤ countBelow n p) → 2 ≤ countBelow n p + cond (p n) 1 0
+      go (yes q) ih = rw (rw q at e) (omega (arith, count-some n i (omega arith) d))
+      go (no q) ih = omega (arith, ih (omega arith) d e)
+
+  -- p holds of no two different numbers
+  pub count-sole : (n : ℕ) → ((i j : ℕ) → i < j → j < n → p i ≡ true → p j ≡ true → ⊥) → countBelow n p ≤ 1
+  unfolding countBelow
+  count-sole zero h = omega arith
+  count-sole (suc n) h = go (p n) refl (count-sole n (λ i j l k. h i j l (omega arith)))
+    where
+      off : p n ≡ true → (i : ℕ) → i < n → (t : Bool) → p i ≡ t → p i ≡ false
+      off e i l true d = absurd (h i n l (omega arith) d e)
+      off e i l false d = d
+
+      go : (t : Bool) → p n ≡ t → countBelow n p ≤ 1 → countBelow n p + cond t 1 0 ≤ 1
+      go true e ih = rw (count-none n (λ i l. off e i l (p i) refl)) (omega arith)
+      go false e ih = omega arith
