@@ -86,3 +86,34 @@ fn run(b: &[u8], s: State, i: u8, t: Thread, fails: bool) -> Stepped
     let x = bundle::instruction_at(k, r, t.at);
     exec(b, s, i, t, k, fails, x)
 }
+
+pub fn step(b: &[u8], s: State, thread: u8, fails: bool) -> Stepped
+    ensures { λ r. ⌜ r ≡ stepOf (now (b .entry)) s thread fails ⌝ }
+{
+    if structure::structure(b).number != 0 {
+        return Stepped {
+            answer: 17,
+            state: s,
+        };
+    }
+    if !belongs::state_ok(b, s) {
+        return Stepped {
+            answer: 18,
+            state: s,
+        };
+    }
+    if 8 <= thread {
+        return Stepped {
+            answer: 5,
+            state: s,
+        };
+    }
+    let t = state::thread(s, thread);
+    if !t.live {
+        return Stepped {
+            answer: 5,
+            state: s,
+        };
+    }
+    run(b, s, thread, t, fails)
+}

@@ -27,7 +27,7 @@ cast-k c = search needs
 
 returns : tie.Need-returns Inv-loop μ-loop
 unfolding placesRefer
-returns c = 
+returns c =
     let l = c .before .before .before .args .t2 in
     let m : length l ≡ 16 = search (needs, length-mapped) in
     sym (all-from _ (c .before .before .before .args .n) (c .before .before .loop .i) (c .before .before .loop .inv .1) (λ j h. let k : length l ≤ j = omega arith in rw (List·getD-eq-default l zeroSlot k)))

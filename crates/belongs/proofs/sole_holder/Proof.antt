@@ -22,7 +22,7 @@ holds-requires : tie.Need-holds-requires Inv-loop μ-loop
 holds-requires c κs = search needs
 
 add-n : tie.Need-add-n Inv-loop μ-loop
-add-n c = 
+add-n c =
     let i = c .before .before .loop .i in
     let p = holdsAt (c .before .before .before .before .args .counts .now) (c .before .before .before .before .args .o) in
     let e : c .before .before .loop .n + c .holds .result ≡ countBelow (i + 1) p = rw (c .before .before .loop .inv .1, c .holds .ensures) (sym (count-more p i)) in

@@ -38,7 +38,7 @@ thread-ok-requires c κs = search needs
 
 returns : tie.Need-returns Inv-loop μ-loop
 unfolding threadsOk
-returns c = 
+returns c =
     let s = c .before .before .before .before .before .before .args .t2 in
     let l : length (s .threads) ≡ 8 = search (needs, length-mapped) in
     let e = read-any (s .threads) (c .before .before .before .before .loop .i) idle _ (omega arith) in
@@ -51,7 +51,7 @@ loop-less : tie.Need-loop-less Inv-loop μ-loop
 loop-less c = search needs
 
 loop-again : tie.Need-loop-again Inv-loop μ-loop
-loop-again c = 
+loop-again c =
     let s = c .before .before .before .before .before .before .args .t2 in
     let l : length (s .threads) ≡ 8 = search (needs, length-mapped) in
     (search needs, let e = read-any (s .threads) (c .before .before .before .before .loop .i) idle _ (omega arith) in all-more _ _ (c .before .before .before .before .loop .inv .1) (rw e (passed (c .before .thread-ok .ensures) (c .if1 .left))))
