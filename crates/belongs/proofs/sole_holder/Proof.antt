@@ -1,7 +1,6 @@
 use Prim.Native.Nat.{_≤_, _-_, _+_}
-use mathlib.Core.Path.{_≡_, sym, ap, _∙_}
+use mathlib.Core.Path.{_≡_, sym}
 use native.Mathlib.Omega.{arith}
-use lib.Dec.{leb}
 use Rattle.ground.specs.Bounded.{countBelow}
 use Rattle.ground.proofs.Bounded.{count-zero, count-more, count-under}
 use Rattle.belongs.specs.Belongs.{holdsAt, soleHolder}
