@@ -1,0 +1,5 @@
+pub mod Ready
+pub mod Kept
+pub mod Writes
+pub mod Moved
+pub mod Changes

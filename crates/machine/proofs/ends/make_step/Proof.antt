@@ -1,0 +1,41 @@
+use borrow.Author.Tests.{lt-ltb, le-ltb}
+use Rattle.ground.specs.Chain.{refuse}
+use Rattle.machine.specs.Instructions.{makeStep}
+use borrow.Author.Needs.{needs}
+use Rattle.machine.proofs.ends.make_step.Statement.{statement}
+use Rattle.machine.proofs.ends.make_step.Tie as tie
+
+returns : tie.Need-returns
+unfolding makeStep refuse
+returns c = rw (le-ltb _ _ (c .if1 .taken))
+
+ref-slot-requires : tie.Need-ref-slot-requires
+ref-slot-requires c κs = search needs
+
+push-requires : tie.Need-push-requires
+push-requires c κs = search needs
+
+add-object-requires : tie.Need-add-object-requires
+add-object-requires c κs = search needs
+
+add-t10 : tie.Need-add-t10
+add-t10 c = search needs
+
+went-to-requires : tie.Need-went-to-requires
+went-to-requires c κs = search needs
+
+returns-2 : tie.Need-returns-2
+unfolding makeStep refuse
+returns-2 c = rw (c .went-to .ensures, c .before .before .add-object .ensures, c .before .before .before .push .ensures, c .before .before .before .before .ref-slot .ensures, lt-ltb _ _ (c .before .before .before .before .before .if1 .left))
+
+pub make-step-spec : {M : Type 1} → statement M
+make-step-spec =
+    tie.close
+    (tie.spec
+    returns
+    ref-slot-requires
+    push-requires
+    add-object-requires
+    add-t10
+    went-to-requires
+    returns-2)

@@ -1,0 +1,167 @@
+use Rattle.bundle.specs.Program.{methodOf, methodAt, programOf}
+use borrow.Author.Needs.{needs}
+use Rattle.machine.proofs.exec.Statement.{statement}
+use Rattle.machine.proofs.exec.Tie as tie
+
+enum-told : tie.Need-enum-told
+enum-told c = search needs
+
+inc-step-requires : tie.Need-inc-step-requires
+inc-step-requires c κs = search needs
+
+enum-told-2 : tie.Need-enum-told-2
+enum-told-2 c = search needs
+
+pop-step-requires : tie.Need-pop-step-requires
+pop-step-requires c κs = search needs
+
+enum-told-3 : tie.Need-enum-told-3
+enum-told-3 c = search needs
+
+push0-step-requires : tie.Need-push0-step-requires
+push0-step-requires c κs = search needs
+
+enum-known-x : tie.Need-enum-known-x
+enum-known-x c = search needs
+
+load-step-requires : tie.Need-load-step-requires
+load-step-requires c κs = search needs
+
+enum-known-x-2 : tie.Need-enum-known-x-2
+enum-known-x-2 c = search needs
+
+store-step-requires : tie.Need-store-step-requires
+store-step-requires c κs = search needs
+
+enum-known-x-3 : tie.Need-enum-known-x-3
+enum-known-x-3 c = search needs
+
+if-step-requires : tie.Need-if-step-requires
+if-step-requires c κs = search needs
+
+enum-known-x-4 : tie.Need-enum-known-x-4
+enum-known-x-4 c = search needs
+
+enter-step-requires : tie.Need-enter-step-requires
+enter-step-requires c κs = search needs
+
+enum-known-x-5 : tie.Need-enum-known-x-5
+enum-known-x-5 c = search needs
+
+exit-step-requires : tie.Need-exit-step-requires
+exit-step-requires c κs = search needs
+
+enum-known-x-6 : tie.Need-enum-known-x-6
+enum-known-x-6 c = search needs
+
+new-step-requires : tie.Need-new-step-requires
+new-step-requires c κs = search needs
+
+enum-known-x-7 : tie.Need-enum-known-x-7
+enum-known-x-7 c = search needs
+
+start-class-requires : tie.Need-start-class-requires
+start-class-requires c κs = search needs
+
+enum-known-x-8 : tie.Need-enum-known-x-8
+enum-known-x-8 c = search needs
+
+throw-step-requires : tie.Need-throw-step-requires
+throw-step-requires c κs = search needs
+
+enum-told-4 : tie.Need-enum-told-4
+enum-told-4 c = search needs
+
+end-step-requires : tie.Need-end-step-requires
+end-step-requires c κs = search needs
+
+enum-told-5 : tie.Need-enum-told-5
+enum-told-5 c = search needs
+
+returns : tie.Need-returns
+returns c = rw (c .inc-step .ensures, c .before .enum-told .given .1)
+
+returns-2 : tie.Need-returns-2
+returns-2 c = rw (c .pop-step .ensures, c .before .enum-told2 .given .1)
+
+returns-3 : tie.Need-returns-3
+unfolding programOf methodAt methodOf
+returns-3 c = rw (c .push0-step .ensures, c .before .enum-told3 .given .1, c .before .before .before .before .pre .1)
+
+returns-4 : tie.Need-returns-4
+unfolding programOf methodAt methodOf
+returns-4 c = rw (c .load-step .ensures, c .before .before .x .given .1, c .before .before .before .before .before .pre .1)
+
+returns-5 : tie.Need-returns-5
+returns-5 c = rw (c .store-step .ensures, c .before .before .x2 .given .1)
+
+returns-6 : tie.Need-returns-6
+returns-6 c = rw (c .if-step .ensures, c .before .before .x3 .given .1)
+
+returns-7 : tie.Need-returns-7
+returns-7 c = rw (c .enter-step .ensures, c .before .before .x4 .given .1)
+
+returns-8 : tie.Need-returns-8
+returns-8 c = rw (c .exit-step .ensures, c .before .before .x5 .given .1)
+
+returns-9 : tie.Need-returns-9
+unfolding programOf methodAt methodOf
+returns-9 c = rw (c .new-step .ensures, c .before .before .x6 .given .1, c .before .before .before .before .before .pre .1)
+
+returns-10 : tie.Need-returns-10
+unfolding programOf
+returns-10 c = rw (c .start-class .ensures, c .before .before .x7 .given .1)
+
+returns-11 : tie.Need-returns-11
+unfolding programOf methodAt methodOf
+returns-11 c = rw (c .throw-step .ensures, c .before .before .x8 .given .1, c .before .before .before .before .before .pre .1)
+
+returns-12 : tie.Need-returns-12
+unfolding programOf methodAt methodOf
+returns-12 c = rw (c .end-step .ensures, c .before .enum-told4 .given .1, c .before .before .before .before .pre .1)
+
+returns-13 : tie.Need-returns-13
+returns-13 c = rw (c .enum-told5 .given .1)
+
+pub exec-spec : {M : Type 1} → statement M
+exec-spec =
+    tie.close
+    (tie.spec
+    enum-told
+    inc-step-requires
+    enum-told-2
+    pop-step-requires
+    enum-told-3
+    push0-step-requires
+    enum-known-x
+    load-step-requires
+    enum-known-x-2
+    store-step-requires
+    enum-known-x-3
+    if-step-requires
+    enum-known-x-4
+    enter-step-requires
+    enum-known-x-5
+    exit-step-requires
+    enum-known-x-6
+    new-step-requires
+    enum-known-x-7
+    start-class-requires
+    enum-known-x-8
+    throw-step-requires
+    enum-told-4
+    end-step-requires
+    enum-told-5
+    returns
+    returns-2
+    returns-3
+    returns-4
+    returns-5
+    returns-6
+    returns-7
+    returns-8
+    returns-9
+    returns-10
+    returns-11
+    returns-12
+    returns-13)

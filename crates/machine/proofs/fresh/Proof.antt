@@ -1,0 +1,37 @@
+use borrow.Author.Tests.{eq-eqb, ne-eqb}
+use Rattle.ground.specs.Chain.{refuse}
+use Rattle.machine.specs.Machine.{freshOf}
+use borrow.Author.Needs.{needs}
+use Rattle.machine.proofs.fresh.Statement.{statement}
+use Rattle.machine.proofs.fresh.Tie as tie
+
+empty-state-requires : tie.Need-empty-state-requires
+empty-state-requires c κs = search needs
+
+structure-requires : tie.Need-structure-requires
+structure-requires c κs = search needs
+
+returns : tie.Need-returns
+unfolding freshOf refuse
+returns c = rw (c .before .before .before .empty-state .ensures, rw (c .before .before .structure .ensures) at (ne-eqb _ _ (c .if1 .taken)))
+
+main-thread-requires : tie.Need-main-thread-requires
+main-thread-requires c κs = search needs
+
+put-thread-requires : tie.Need-put-thread-requires
+put-thread-requires c κs = search needs
+
+returns-2 : tie.Need-returns-2
+unfolding freshOf refuse
+returns-2 c = rw (c .put-thread .ensures, c .before .main-thread .ensures, c .before .before .before .before .before .empty-state .ensures, rw (c .before .before .before .before .structure .ensures) at (eq-eqb _ _ (c .before .before .if1 .left)))
+
+pub fresh-spec : {M : Type 1} → statement M
+fresh-spec =
+    tie.close
+    (tie.spec
+    empty-state-requires
+    structure-requires
+    returns
+    main-thread-requires
+    put-thread-requires
+    returns-2)

@@ -1,0 +1,21 @@
+use Rattle.bundle.specs.Program.{methodOf, methodAt}
+use borrow.Author.Needs.{needs}
+use Rattle.machine.proofs.starts.start_class.Statement.{statement}
+use Rattle.machine.proofs.starts.start_class.Tie as tie
+
+class-at-requires : tie.Need-class-at-requires
+class-at-requires c κs = search needs
+
+part-of-requires : tie.Need-part-of-requires
+part-of-requires c κs = search needs
+
+start-step-requires : tie.Need-start-step-requires
+start-step-requires c κs = search needs
+
+returns : tie.Need-returns
+unfolding methodAt methodOf
+returns c = rw (c .start-step .ensures, c .before .part-of .ensures, c .before .before .class-at .ensures)
+
+pub start-class-spec : {M : Type 1} → statement M
+start-class-spec =
+    tie.close (tie.spec class-at-requires part-of-requires start-step-requires returns)

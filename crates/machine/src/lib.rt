@@ -1,0 +1,119 @@
+// The machine of document 01: a fresh machine, and one step of one thread. Each call checks bundle and state for itself.
+mod ends;
+mod locks;
+mod moves;
+mod stack;
+mod starts;
+
+ghost use mathlib.Core.Path.{_≡_};
+ghost use Prim.Native.Nat.{_<_};
+ghost use Rattle.bundle.specs.Container.{classAt};
+ghost use Rattle.bundle.specs.Program.{methodAt, programOf};
+ghost use Rattle.machine.specs.Machine.{mainThread, freshOf, execOf, runOf, stepOf};
+use bundle::Class;
+use instructions::Addr;
+use instructions::Instruction;
+use state::State;
+use threads::Thread;
+
+// The answer of document 01's table, and the state: all answers but 0, 1, 2 give it back as given.
+pub struct Stepped {
+    pub answer: u8,
+    pub state: State,
+}
+
+fn main_thread() -> Thread
+    ensures { λ r. ⌜ r ≡ mainThread ⌝ }
+{
+    let z = values::zero_slot();
+    Thread {
+        live: true,
+        class: 0,
+        at: Addr(1),
+        depth: 0,
+        vars: [z; 16],
+        stack: [z; 16],
+    }
+}
+
+pub fn fresh(b: &[u8]) -> Stepped
+    ensures { λ r. ⌜ r ≡ freshOf (now (b .entry)) ⌝ }
+{
+    let s = state::empty_state();
+    if structure::structure(b).number != 0 {
+        return Stepped {
+            answer: 17,
+            state: s,
+        };
+    }
+    Stepped {
+        answer: 0,
+        state: state::put_thread(s, 0, main_thread()),
+    }
+}
+
+// `k` is what the directory says of the thread's class.
+fn exec(b: &[u8], s: State, i: u8, t: Thread, k: Class, fails: bool, x: Instruction) -> Stepped
+    requires { ⌜ (t .at .0 < 65535) × (k ≡ classAt (now b) (t .class)) ⌝ }
+    ensures { λ r. ⌜ r ≡ execOf (programOf (now (b .entry))) s i t (methodAt (now (b .entry)) (t .class)) fails x ⌝ }
+{
+    match x {
+        Instruction::Inc => stack::inc_step(s, i, t),
+        Instruction::Pop => stack::pop_step(s, i, t),
+        Instruction::Push0 => stack::push0_step(s, i, t, k.limit),
+        Instruction::Load(v) => stack::load_step(s, i, t, k.limit, v),
+        Instruction::Store(v) => stack::store_step(s, i, t, v),
+        Instruction::If(a) => stack::if_step(s, i, t, a),
+        Instruction::Enter(v) => locks::enter_step(s, i, t, v),
+        Instruction::Exit(v) => locks::exit_step(s, i, t, v),
+        Instruction::New(c, h) => ends::new_step(s, i, t, k.limit, k.vars, c, h, fails),
+        Instruction::Start(c) => starts::start_class(b, s, i, t, c),
+        Instruction::Throw(h) => ends::throw_step(s, i, t, k.vars, h),
+        Instruction::Return => ends::end_step(s, i, t, k.vars, 1),
+        Instruction::Nothing => Stepped {
+            answer: 17,
+            state: s,
+        },
+    }
+}
+
+fn run(b: &[u8], s: State, i: u8, t: Thread, fails: bool) -> Stepped
+    requires { ⌜ t .at .0 < 65535 ⌝ }
+    ensures { λ r. ⌜ r ≡ runOf (programOf (now (b .entry))) s i t fails ⌝ }
+{
+    let k = bundle::class_at(b, t.class);
+    let r = bundle::part_of(b, k);
+    let x = bundle::instruction_at(k, r, t.at);
+    exec(b, s, i, t, k, fails, x)
+}
+
+pub fn step(b: &[u8], s: State, thread: u8, fails: bool) -> Stepped
+    ensures { λ r. ⌜ r ≡ stepOf (now (b .entry)) s thread fails ⌝ }
+{
+    if structure::structure(b).number != 0 {
+        return Stepped {
+            answer: 17,
+            state: s,
+        };
+    }
+    if !belongs::state_ok(b, s) {
+        return Stepped {
+            answer: 18,
+            state: s,
+        };
+    }
+    if 8 <= thread {
+        return Stepped {
+            answer: 5,
+            state: s,
+        };
+    }
+    let t = state::thread(s, thread);
+    if !t.live {
+        return Stepped {
+            answer: 5,
+            state: s,
+        };
+    }
+    run(b, s, thread, t, fails)
+}
