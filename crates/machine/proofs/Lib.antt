@@ -3,3 +3,4 @@ pub mod Kept
 pub mod Writes
 pub mod Moved
 pub mod Changes
+pub mod Stays

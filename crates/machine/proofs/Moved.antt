@@ -5,7 +5,6 @@ use Prim.Native.Nat.{ℕ, _+_, _-_, _≤_, _<_}
 use native.Mathlib.Omega.{arith}
 use lib.ListN.{getD}
 use borrow.Author.Tests.{lt-ltb, ltb-true}
-use Rattle.ground.specs.Bounded.{fillFrom}
 use Rattle.ground.proofs.Writes.{fill-out}
 use Rattle.bundle.specs.Program.{Program}
 use Rattle.values.specs.declared.Value.{Value}
