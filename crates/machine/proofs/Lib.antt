@@ -4,3 +4,4 @@ pub mod Writes
 pub mod Moved
 pub mod Changes
 pub mod Stays
+pub mod FreshStays

@@ -1,8 +1,8 @@
--- THEOREMS: from a state of the bundle a step gives a state of the bundle, whatever it answers; a fresh machine's state is one where it answers 0.
+-- THEOREM: from a state of the bundle a step gives a state of the bundle, whatever it answers.
 use mathlib.Core.Path.{_≡_, refl, _∙_}
 use mathlib.Core.Bool.{Bool, true, false, cond, _||_, not}
 use mathlib.Core.List.{List}
-use Prim.Native.Nat.{ℕ, _+_, _-_, _*_, _≤_, _<_}
+use Prim.Native.Nat.{ℕ, _+_, _-_, _≤_, _<_}
 use native.Mathlib.Omega.{arith}
 use native.Mathlib.Decide.{decLt}
 use lib.ListN.{getD, replicate, length-replicate, getD-replicate}
@@ -22,15 +22,15 @@ use Rattle.bundle.specs.Program.{Method, Program, programOf}
 use Rattle.structure.proofs.Structured.{WellFormed}
 use Rattle.values.specs.Values.{zeroSlot, refSlot, isInt, objectOf, incSlot, jumps, refers}
 use Rattle.threads.specs.declared.Thread.{Thread}
-use Rattle.threads.specs.Threads.{idle, entryOf, topOf, varOf, withAt, topped, pushed, popped, stored, ended, started}
+use Rattle.threads.specs.Threads.{entryOf, topOf, varOf, withAt, topped, pushed, popped, stored, ended, started}
 use Rattle.state.specs.declared.State.{State}
-use Rattle.state.specs.State.{threadAt, countOf, withThread, withCount, withObject, emptyState, freeOf, othersFree, isFree, holdsNothing, lowestFree}
+use Rattle.state.specs.State.{threadAt, countOf, withThread, withCount, withObject, freeOf, othersFree, isFree, holdsNothing, lowestFree}
 use Rattle.belongs.specs.Belongs.{stateOk}
 use Rattle.belongs.proofs.Belongs.{Placed, Belongs, refers-object, belongs-elim, belongs-intro}
 use Rattle.machine.specs.declared.Stepped.{Stepped}
 use Rattle.machine.specs.Answers.{refused, wentTo, wentOn}
 use Rattle.machine.specs.Instructions.{incStep, popStep, push0Step, loadStep, storeStep, ifStep, enterObject, enterStep, exitObject, exitStep, endStep, throwStep, makeStep, newStep, startedBy, startStep}
-use Rattle.machine.specs.Machine.{mainThread, freshOf, execOf, runOf, stepOf}
+use Rattle.machine.specs.Machine.{execOf, runOf, stepOf}
 use Rattle.machine.proofs.Ready.{formed}
 use Rattle.machine.proofs.Moved.{refers-inc, placed-more, Moved, unmoved, entry-refers, moved-topped, moved-pushed, moved-popped, moved-stored, moved-placed}
 use Rattle.machine.proofs.Changes.{grown, thread-belongs, count-belongs, object-belongs}
@@ -42,7 +42,7 @@ either : {P : Program} (t : Bool) (a b : Stepped) → (t ≡ true → Stays P a)
 either true a b p q = p refl
 either false a b p q = q refl
 
-unless : {P : Program} (s : State) → Belongs P s → (ok : Bool) (n : ℕ) (rest : Stepped) → (ok ≡ true → Stays P rest)
+pub unless : {P : Program} (s : State) → Belongs P s → (ok : Bool) (n : ℕ) (rest : Stepped) → (ok ≡ true → Stays P rest)
     → Stays P (refuse ok (refused n s) rest)
 unfolding refuse
 unless s h ok n rest k = either ok rest (refused n s) k (λ e. record { stays = h })
@@ -262,40 +262,3 @@ pub step-belongs : (b : List ℕ) (s : State) (i : ℕ) (fails : Bool) → state
     → stateOk (programOf b) (stepOf b s i fails .state) ≡ true
 step-belongs b s i fails e =
     belongs-intro (programOf b) (stepOf b s i fails .state) (step-stays b s i fails (belongs-elim (programOf b) s e) .stays)
-
--- ---- the fresh machine
-empty-thread : (i : ℕ) → i < 8 → threadAt emptyState i ≡ idle
-empty-thread i l = getD-replicate 8 i idle idle l
-
-empty-count : (i o : ℕ) → i < 8 → o < 32 → countOf (emptyState .counts) i o ≡ 0
-empty-count i o l k = getD-replicate 256 (i * 32 + o) 0 0 (omega arith)
-
-empty-belongs : (P : Program) → Belongs P emptyState
-empty-belongs P =
-    record {
-      live-placed = λ i l a. never (rw (empty-thread i l) at a) refl;
-      objects-32 = omega arith;
-      object-class = λ o l. absurd (omega arith);
-      counted = λ i o l k. rw (empty-count i o l k) (record { count-2047 = omega arith; on-object = λ n. absurd (omega arith); by-live = λ n. absurd (omega arith) });
-      one-holder = λ i j o l k m a b. absurd (omega (arith, empty-count i o l m));
-    }
-
-fresh-placed : (P : Program) → WellFormed P → Placed P 0 mainThread
-fresh-placed P wf =
-    record {
-      class-known = wf .some-class;
-      address-first = omega arith;
-      address-last = wf .some-code 0 (wf .some-class);
-      depth-limit = omega arith;
-      variable-refers = λ v l. rw (getD-replicate 16 v zeroSlot zeroSlot (omega (arith, wf .vars-16 0 (wf .some-class)))) refl;
-      stack-refers = λ q l. absurd (omega arith);
-    }
-
-pub fresh-belongs : (b : List ℕ) → stateOk (programOf b) (freshOf b .state) ≡ true
-unfolding freshOf
-fresh-belongs b = belongs-intro (programOf b) (freshOf b .state) (made .stays)
-  where
-    made : Stays (programOf b) (freshOf b)
-    made =
-        unless emptyState (empty-belongs (programOf b)) _ _ _ (λ e.
-        record { stays = thread-belongs (programOf b) emptyState (empty-belongs (programOf b)) 0 mainThread (λ a. fresh-placed (programOf b) (formed b e)) (λ o l n. refl) })

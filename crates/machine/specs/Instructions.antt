@@ -14,7 +14,7 @@ use Rattle.threads.specs.Threads.{entryOf, topOf, varOf, topped, pushed, popped
 use Rattle.state.specs.declared.State.{State}
 use Rattle.state.specs.State.{threadAt, countOf, withThread, withCount, withObject, othersFree, holdsNothing, lowestFree}
 use Rattle.machine.specs.declared.Stepped.{Stepped}
-use Rattle.machine.specs.Answers.{refused, unless, wentTo, wentOn}
+use Rattle.machine.specs.Answers.{unless, wentTo, wentOn}
 
 -- the stack has n entries (else 11)
 abbrev pub has : ℕ → Thread → Bool
