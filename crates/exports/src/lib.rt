@@ -1,0 +1,58 @@
+// C calls on byte slices, for tests, benchmarks and Rust callers.
+ghost use mathlib.Core.Path.{_≡_};
+ghost use Prim.Native.Nat.{_<_};
+ghost use Rattle.verifier.specs.Verdict.{verdictOf};
+ghost use Rattle.machine.specs.Machine.{stepOf};
+ghost use Rattle.exports.specs.Exports.{packed, who, failing, advanced, digestOf};
+use state::State;
+use structure::Verdict;
+
+// A machine on its way, and its answers so far, mixed into one number.
+struct Running {
+    state: State,
+    digest: u64,
+}
+
+fn pack(v: Verdict) -> u64
+    ensures { λ r. ⌜ r ≡ packed v ⌝ }
+{
+    v.number as u64 + 256 * (v.class as u64) + 65536 * (v.address as u64)
+}
+
+// The verdict on a bundle: the number in the low byte, the class in the next, the address above.
+#[no_mangle]
+pub extern "C" fn hveitmar_verdict(b: &[u8]) -> u64
+    ensures { λ r. ⌜ r ≡ packed (verdictOf (now (b .entry))) ⌝ }
+{
+    pack(verifier::verify(b))
+}
+
+fn advance(b: &[u8], r: Running, x: u8) -> Running
+    requires { ⌜ r .digest < 4294967296 ⌝ }
+    ensures { λ o. ⌜ (o ≡ advanced (r .digest) (stepOf (now (b .entry)) (r .state) (who x) (failing x))) × (o .digest < 4294967296) ⌝ }
+{
+    let s = r.state;
+    let o = machine::step(b, s, x % 16, 128 <= x);
+    let next = o.state;
+    Running {
+        state: next,
+        digest: (r.digest * 31 + (o.answer as u64)) % 4294967296,
+    }
+}
+
+// All answers of a schedule from the fresh machine, mixed into one number: equal numbers for equal answers.
+#[no_mangle]
+pub extern "C" fn hveitmar_digest(b: &[u8], schedule: &[u8]) -> u64
+    ensures { λ r. ⌜ r ≡ digestOf (now (b .entry)) (now (schedule .entry)) ⌝ }
+{
+    let f = machine::fresh(b);
+    let s = f.state;
+    let mut r = Running {
+        state: s,
+        digest: f.answer as u64,
+    };
+    for i in 0..schedule.len() {
+        r = advance(b, r, schedule[i]);
+    }
+    r.digest
+}
