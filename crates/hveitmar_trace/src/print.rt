@@ -78,18 +78,30 @@ fn wide(x: u8) -> u64 {
     x as u64
 }
 
-fn put_thread(out: &mut [u8], at: usize, i: u8, t: Thread) -> usize {
-    let a = put_field(out, at, b"thread ", i as u64);
-    let b = put_field(out, a, b" live ", t.live as u64);
-    let c = put_field(out, b, b" class ", t.class as u64);
-    let d = put_field(out, c, b" address ", t.at.0 as u64);
-    let e = put_field(out, d, b" depth ", t.depth as u64);
-    let f = put_all(out, e, b" vars");
+fn put_head(out: &mut [u8], at: usize, i: u8, t: Thread) -> usize {
+    let p = put_field(out, at, b"thread ", i as u64);
+    let q = put_field(out, p, b" live ", t.live as u64);
+    put_field(out, q, b" class ", t.class as u64)
+}
+
+fn put_stand(out: &mut [u8], at: usize, t: Thread) -> usize {
+    let p = put_field(out, at, b" address ", t.at.0 as u64);
+    put_field(out, p, b" depth ", t.depth as u64)
+}
+
+fn put_values(out: &mut [u8], at: usize, t: Thread) -> usize {
+    let p = put_all(out, at, b" vars");
     let vars = t.vars;
-    let g = put_places(out, f, vars);
-    let h = put_all(out, g, b" stack");
+    let q = put_places(out, p, vars);
+    let r = put_all(out, q, b" stack");
     let stack = t.stack;
-    put_places(out, h, stack)
+    put_places(out, r, stack)
+}
+
+fn put_thread(out: &mut [u8], at: usize, i: u8, t: Thread) -> usize {
+    let p = put_head(out, at, i, t);
+    let q = put_stand(out, p, t);
+    put_values(out, q, t)
 }
 
 fn thread_line(out: &mut [u8], at: usize, i: u8, t: Thread, counts: &[u16]) -> usize {

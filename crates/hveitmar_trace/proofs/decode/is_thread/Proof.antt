@@ -1,62 +1,48 @@
+-- `hveitmar_trace::decode::is_thread` is safe and ends: the loop counts up to its bound.
+use Prim.Native.Nat.{_≤_, _-_}
 use borrow.Author.Needs.{needs}
 use Rattle.hveitmar_trace.proofs.decode.is_thread.Statement.{statement}
 use Rattle.hveitmar_trace.proofs.decode.is_thread.Tie as tie
-use Rattle.hveitmar_trace.proofs.decode.is_thread.Reads as reads
-use Rattle.hveitmar_trace.proofs.decode.is_thread.Lts as lts
-use Rattle.ground.proofs.byte.Reads as byte-reads
-use Rattle.hveitmar_trace.proofs.decode.is_place.Reads as is-place-reads
 
 abbrev Inv-loop : tie.InvT-loop
-Inv-loop g at i₀ i = ?
+Inv-loop g at i₀ i = i ≤ 32
 
 abbrev μ-loop : tie.MeasureT-loop
-μ-loop g at i₀ i = ?
+μ-loop g at i₀ i = 32 - i
 
--- src/decode.rt:87:12
 byte-requires : tie.Need-byte-requires Inv-loop μ-loop
 byte-requires c κs = search needs
 
--- src/decode.rt:88:9
 returns : tie.Need-returns Inv-loop μ-loop
 returns c = search needs
 
--- src/decode.rt:90:5
 loop-holds : tie.Need-loop-holds Inv-loop μ-loop
 loop-holds c = search needs
 
--- src/decode.rt:91:25
 add-is-place : tie.Need-add-is-place Inv-loop μ-loop
 add-is-place c = search needs
 
--- src/decode.rt:91:42
 mul-is-place : tie.Need-mul-is-place Inv-loop μ-loop
 mul-is-place c = search needs
 
--- src/decode.rt:91:25
 add-is-place-2 : tie.Need-add-is-place-2 Inv-loop μ-loop
 add-is-place-2 c = search needs
 
--- src/decode.rt:91:13
 is-place-requires : tie.Need-is-place-requires Inv-loop μ-loop
 is-place-requires c κs = search needs
 
--- src/decode.rt:92:13
 returns-2 : tie.Need-returns-2 Inv-loop μ-loop
 returns-2 c = search needs
 
--- src/decode.rt:90:9
 add-i : tie.Need-add-i Inv-loop μ-loop
 add-i c = search needs
 
--- src/decode.rt:90:5
 loop-less : tie.Need-loop-less Inv-loop μ-loop
 loop-less c = search needs
 
--- src/decode.rt:90:5
 loop-again : tie.Need-loop-again Inv-loop μ-loop
 loop-again c = search needs
 
--- src/decode.rt:84:1
 returns-3 : tie.Need-returns-3 Inv-loop μ-loop
 returns-3 c = search needs
 
