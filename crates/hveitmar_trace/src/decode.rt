@@ -166,8 +166,8 @@ fn thread(g: &[u8], at: usize) -> Thread
 }
 
 fn threads(g: &[u8]) -> [Thread; 8] {
-    let t = threads::idle();
-    let mut a = [t; 8];
+    let none = threads::idle();
+    let mut a = [none; 8];
     for i in 0..8usize {
         let t = thread(g, i * THREAD);
         a[i] = t;

@@ -84,7 +84,7 @@ fn put_head(out: &mut [u8], at: usize, i: u8, t: Thread) -> usize {
     put_field(out, q, b" class ", t.class as u64)
 }
 
-fn put_stand(out: &mut [u8], at: usize, t: Thread) -> usize {
+fn put_position(out: &mut [u8], at: usize, t: Thread) -> usize {
     let p = put_field(out, at, b" address ", t.at.0 as u64);
     put_field(out, p, b" depth ", t.depth as u64)
 }
@@ -100,7 +100,7 @@ fn put_values(out: &mut [u8], at: usize, t: Thread) -> usize {
 
 fn put_thread(out: &mut [u8], at: usize, i: u8, t: Thread) -> usize {
     let p = put_head(out, at, i, t);
-    let q = put_stand(out, p, t);
+    let q = put_position(out, p, t);
     put_values(out, q, t)
 }
 

@@ -1,16 +1,16 @@
 -- The machine's integers: the code's test of the bits is the definition's test of the number, one more fits where it does not wrap, and -1 less
 -- a number is what stands between a negative number and its bits.
 use mathlib.Core.Path.{_≡_, refl, ap}
-use mathlib.Core.Bool.{true, false}
+use mathlib.Core.Bool.{Bool, true, false, cond}
 use Prim.Native.Nat.{ℕ, zero, suc, _-_, _<_, _^_}
 use native.Mathlib.Omega.{arith}
-use lib.Dec.{eqb}
+use lib.Dec.{ltb, eqb}
 use lib.IntN.{ℤ, pos, negsuc, _+ℤ_, _-ℤ_}
 use lib.Signed.{mag, ltZ}
 use borrow.Author.Tests.{lt-ltb, le-ltb, ltb-true, ne-eqb, eqb-false}
 use mir.Syntax.{w32}
 use mir.Val.{SFits, ofZ}
-use Rattle.values.specs.Values.{isPos, bitsOf}
+use Rattle.values.specs.Values.{isPos, numberOf, bitsOf}
 
 pub bits-is : (m : ℕ) → m < 2 ^ 31 → (z : ℤ) → SFits w32 z → eqb (ofZ w32 z) m ≡ isPos m z
 bits-is m lm (pos n) s = refl
@@ -40,3 +40,11 @@ is-pos (negsuc n) e = let z : _≡_ {A = ℕ} 0 1 = cc in absurd (omega arith)
 pub flip-pos : (n : ℕ) → negsuc 0 -ℤ pos n ≡ negsuc n
 flip-pos zero = refl
 flip-pos (suc n) = ap (λ k. negsuc (suc k)) (omega arith)
+
+-- 32 bits are those of the number that they stand for
+pub bits-number : (w : ℕ) → w < 2 ^ 32 → bitsOf (numberOf w) ≡ w
+bits-number w h = go (ltb w 2147483648) refl
+  where
+    go : (b : Bool) → ltb w 2147483648 ≡ b → bitsOf (cond b (pos w) (negsuc (4294967295 - w))) ≡ w
+    go true e = refl
+    go false e = omega arith
