@@ -1,6 +1,6 @@
 -- Document 01, the machine: values are 32-bit signed integers or references; inc wraps; `if` jumps on a value that isn't 0.
 use mathlib.Core.Bool.{Bool, true, false, cond, not}
-use Prim.Native.Nat.{ℕ}
+use Prim.Native.Nat.{ℕ, _-_}
 use lib.Dec.{ltb, eqb}
 use lib.IntN.{ℤ, pos, negsuc, _+ℤ_}
 use Rattle.values.specs.declared.Value.{Value}
@@ -24,6 +24,26 @@ zeroSlot = slot (Int (pos 0))
 
 abbrev pub refSlot : ℕ → Slot
 refSlot o = slot (Ref o)
+
+-- the number that 32 bits stand for, in two's complement
+abbrev pub numberOf : ℕ → ℤ
+numberOf w = cond (ltb w 2147483648) (pos w) (negsuc (4294967295 - w))
+
+abbrev pub intSlot : ℕ → Slot
+intSlot w = slot (Int (numberOf w))
+
+-- the 32 bits that stand for a number
+abbrev pub bitsOf : ℤ → ℕ
+bitsOf (pos n) = n
+bitsOf (negsuc n) = 4294967295 - n
+
+abbrev pub bitsOfValue : Value → ℕ
+bitsOfValue (Int z) = bitsOf z
+bitsOfValue (Ref o) = 0
+
+-- the bits of the integer in the slot, 0 for a reference
+abbrev pub bitsOfSlot : Slot → ℕ
+bitsOfSlot x = bitsOfValue (x .value)
 
 abbrev pub isIntValue : Value → Bool
 isIntValue (Int z) = true

@@ -1,7 +1,7 @@
 // A value of the machine, and what the instructions do with one.
 ghost use mathlib.Core.Path.{_≡_};
 ghost use mathlib.Core.Bool.{not};
-ghost use Rattle.values.specs.Values.{incOf, isPos, zeroSlot, refSlot, isInt, objectOf, incValue, incSlot, jumps, refers};
+ghost use Rattle.values.specs.Values.{incOf, isPos, zeroSlot, refSlot, numberOf, intSlot, bitsOf, bitsOfSlot, isInt, objectOf, incValue, incSlot, jumps, refers};
 
 pub enum Value {
     Int(i32),
@@ -26,6 +26,44 @@ pub fn ref_slot(o: u8) -> Slot
 {
     Slot {
         value: Value::Ref(o),
+    }
+}
+
+fn number(w: u32) -> i32
+    ensures { λ r. ⌜ r ≡ numberOf w ⌝ }
+{
+    if w < 2147483648 {
+        return w as i32;
+    }
+    -1 - ((4294967295 - w) as i32)
+}
+
+// An integer from its 32 bits.
+pub fn int_slot(w: u32) -> Slot
+    ensures { λ r. ⌜ r ≡ intSlot w ⌝ }
+{
+    let z = number(w);
+    Slot {
+        value: Value::Int(z),
+    }
+}
+
+fn bits(z: i32) -> u32
+    ensures { λ r. ⌜ r ≡ bitsOf z ⌝ }
+{
+    if z < 0 {
+        return 4294967295 - ((-1 - z) as u32);
+    }
+    z as u32
+}
+
+pub fn bits_of(x: Slot) -> u32
+    ensures { λ r. ⌜ r ≡ bitsOfSlot x ⌝ }
+{
+    let v = x.value;
+    match v {
+        Value::Int(z) => bits(z),
+        Value::Ref(_) => 0,
     }
 }
 

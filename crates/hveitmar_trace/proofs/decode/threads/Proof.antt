@@ -1,0 +1,60 @@
+-- `hveitmar_trace::decode::threads` is safe and ends: the loop counts up to its bound, and the array keeps its length.
+use Prim.Native.Nat.{_≤_, _-_}
+use mathlib.Core.Path.{_≡_}
+use lib.ListN.{length}
+use borrow.Author.Needs.{needs}
+use Rattle.hveitmar_trace.proofs.decode.threads.Statement.{statement}
+use Rattle.hveitmar_trace.proofs.decode.threads.Tie as tie
+
+abbrev Inv-loop : tie.InvT-loop
+Inv-loop g a₀ i₀ a i = (i ≤ 8) × (length a ≡ 8)
+
+abbrev μ-loop : tie.MeasureT-loop
+μ-loop g a₀ i₀ a i = 8 - i
+
+idle-requires : tie.Need-idle-requires Inv-loop μ-loop
+idle-requires c κs = search needs
+
+loop-holds : tie.Need-loop-holds Inv-loop μ-loop
+loop-holds c = search needs
+
+mul-thread : tie.Need-mul-thread Inv-loop μ-loop
+mul-thread c = search needs
+
+thread-requires : tie.Need-thread-requires Inv-loop μ-loop
+thread-requires c κs = search needs
+
+mul-a : tie.Need-mul-a Inv-loop μ-loop
+mul-a c = search needs
+
+array-set-from-a : tie.Need-array-set-from-a Inv-loop μ-loop
+array-set-from-a c = search needs
+
+add-i : tie.Need-add-i Inv-loop μ-loop
+add-i c = search needs
+
+loop-less : tie.Need-loop-less Inv-loop μ-loop
+loop-less c = search needs
+
+loop-again : tie.Need-loop-again Inv-loop μ-loop
+loop-again c = search needs
+
+returns : tie.Need-returns Inv-loop μ-loop
+returns c = search needs
+
+pub threads-spec : {M : Type 1} → statement M
+threads-spec =
+    tie.close
+    (tie.spec
+    Inv-loop
+    μ-loop
+    idle-requires
+    loop-holds
+    mul-thread
+    thread-requires
+    mul-a
+    array-set-from-a
+    add-i
+    loop-less
+    loop-again
+    returns)
