@@ -1,0 +1,3 @@
+pub mod Kind
+pub mod Weights
+pub mod Balance
