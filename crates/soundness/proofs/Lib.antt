@@ -1,3 +1,5 @@
 pub mod Kind
 pub mod Weights
 pub mod Balance
+pub mod Slots
+pub mod Values
