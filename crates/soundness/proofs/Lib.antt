@@ -3,3 +3,5 @@ pub mod Weights
 pub mod Balance
 pub mod Slots
 pub mod Values
+pub mod Accepted
+pub mod Invariant
