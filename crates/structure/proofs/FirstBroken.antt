@@ -13,7 +13,7 @@ use Rattle.structure.specs.declared.Verdict.{Verdict}
 use Rattle.structure.specs.Verdicts.{verdict, isBad, pass, andThen}
 use Rattle.structure.specs.Structure.{headOf, shapeOf, shapeAt, shapesOf, layoutOf, tableAt, tableOf, tableOfClass, tablesOf, structureOf}
 use Rattle.structure.specs.Places.{Place, whole, trailer, directory, limits, extent, descriptors, instruction, Within, holds, drawn, rank, Earlier}
-use Rattle.structure.proofs.Order.{Names, Judges, Before, judges-nothing, judges-same, judges-refuse, judges-then, judges-ascending}
+use Rattle.structure.proofs.Order.{Names, Judges, Before, judges-nothing, judges-same, judges-refuse, judges-then, judges-ascending, judges-classes}
 
 bad : (p : Place) → isBad (drawn p) ≡ true
 bad whole = refl
@@ -87,13 +87,7 @@ module _ (b : List ℕ) where
 
   shapes-judge : J Shapes (shapesOf b)
   unfolding shapesOf
-  shapes-judge = judges-ascending _ _ _ (classes b) (shapeAt b) Shape before (λ c l. shape-judges c)
-    where
-      before : (c d : ℕ) → c < d → Before (holds b) drawn rank (Shape c) (Shape d)
-      before c d l p q x y =
-          let u = shape-rank c p x in
-          let w = shape-rank d q y in
-          inr (u .0 ∙ sym (w .0), inl (omega (arith, u .1, w .1)))
+  shapes-judge = judges-classes _ _ _ (classes b) (shapeAt b) Shape 4 shape-rank shape-judges
 
   head-rank : (q : Place) → Head q → rank q .stage ≤ 3
   head-rank q (inl e) = rw e (omega arith)
@@ -130,13 +124,7 @@ module _ (b : List ℕ) where
 
   tables-judge : J Tables (tablesOf b)
   unfolding tablesOf
-  tables-judge = judges-ascending _ _ _ (classes b) (tableOfClass b) Table before (λ c l. table-judges c)
-    where
-      before : (c d : ℕ) → c < d → Before (holds b) drawn rank (Table c) (Table d)
-      before c d l p q x y =
-          let u = table-rank c p x in
-          let w = table-rank d q y in
-          inr (u .0 ∙ sym (w .0), inl (omega (arith, u .1, w .1)))
+  tables-judge = judges-classes _ _ _ (classes b) (tableOfClass b) Table 5 table-rank table-judges
 
   layout-rank : (q : Place) → Layout q → rank q .stage ≤ 4
   layout-rank q (inl x) = omega (arith, head-rank q x)

@@ -147,3 +147,15 @@ module _ {P : Type 0} (holds : P → Bool) (drawn : P → Verdict) (rank : P →
               at q x l (no h) (yes h′) = m .earlier q (rw h′ at (x .2)) l
               at q x l (no h) (no h′) =
                   absurd (in-order-once (rank (m .place)) (rank q) (b (s .0) (x .0) (omega arith) (m .place) q (m .within) (x .2)) l)
+
+  -- class by class, all in one stage
+  pub judges-classes : (n : ℕ) (f : ℕ → Verdict) (A : ℕ → P → Type 0) (stage : ℕ)
+      → ((c : ℕ) (q : P) → A c q → (rank q .stage ≡ stage) × (rank q .class ≡ c)) → ((c : ℕ) → Judges (A c) (f c))
+      → Judges (λ q. (c : ℕ) × (c < n) × A c q) (ascending n f)
+  judges-classes n f A stage r j = judges-ascending n f A before (λ c l. j c)
+    where
+      before : (c d : ℕ) → c < d → Before (A c) (A d)
+      before c d l p q x y =
+          let u = r c p x in
+          let w = r d q y in
+          inr (u .0 ∙ sym (w .0), inl (omega (arith, u .1, w .1)))
