@@ -5,3 +5,4 @@ pub mod Slots
 pub mod Values
 pub mod Accepted
 pub mod Invariant
+pub mod Moves
