@@ -30,6 +30,7 @@ entryAt P R c l s = slotOf (P .method c .vars) (R c l) s
 
 -- a live thread, with the counts k, among n objects of the classes cls: its depth is its row's, and its row's pairs are in balance with its counts
 pub record Live (P : Program) (R : ℕ → ℕ → Row) (n : ℕ) (cls k : ℕ → ℕ) (t : Thread) : Type 0 where
+  pub alive : t .live ≡ true
   pub sized : Sixteen t
   pub address : Address P (t .class) (t .at .0)
   pub depth-exact : t .depth ≡ R (t .class) (t .at .0) .depth

@@ -6,3 +6,4 @@ pub mod Values
 pub mod Accepted
 pub mod Invariant
 pub mod Moves
+pub mod Places

@@ -38,6 +38,7 @@ module _ (P : Program) (R : ℕ → ℕ → Row) where
   standing-more n cls k n′ cls′ k′ t ln lc qk h =
       record {
         live = λ a. record {
+          alive = a;
           sized = h .live a .sized;
           address = h .live a .address;
           depth-exact = h .live a .depth-exact;
@@ -46,8 +47,8 @@ module _ (P : Program) (R : ℕ → ℕ → Row) where
         asleep = λ a. record { sized = h .asleep a .sized; free = λ o l. qk o l ∙ h .asleep a .free o l };
       }
 
-  pub live-standing : (n : ℕ) (cls k : ℕ → ℕ) (t : Thread) → t .live ≡ true → Live P R n cls k t → Standing P R n cls k t
-  live-standing n cls k t a h = record { live = λ _. h; asleep = λ b. never a b }
+  pub live-standing : (n : ℕ) (cls k : ℕ → ℕ) (t : Thread) → Live P R n cls k t → Standing P R n cls k t
+  live-standing n cls k t h = record { live = λ _. h; asleep = λ b. never (h .alive) b }
 
   pub asleep-standing : (n : ℕ) (cls k : ℕ → ℕ) (t : Thread) → t .live ≡ false → Asleep k t → Standing P R n cls k t
   asleep-standing n cls k t a h = record { live = λ b. never b a; asleep = λ _. h }

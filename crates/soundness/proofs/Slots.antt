@@ -56,7 +56,7 @@ module _ (vars : ℕ) (v16 : vars ≤ 16) (x : Row) where
       go (no k) (no d) (yes e) = stk (15 + x .depth - s) (omega arith) (omega arith)
       go (no k) (no d) (no e) = rw (slot-nostack s (omega arith)) b
 
--- ---- the rest fits: a entries go from the top of x, and b come in their stead in y; `skip` is the variable that the rule names, 16 where it names none
+-- ---- the rest fits: a entries go from the top of x, and b come in their stead in y; `skip` is the variable that the rule names, 32 where it names none
 pub record Rest (vars : ℕ) (x y : Row) (skip a b : ℕ) : Type 0 where
   pub enough : a ≤ x .depth
   pub depths : y .depth + a ≡ x .depth + b
@@ -64,7 +64,7 @@ pub record Rest (vars : ℕ) (x y : Row) (skip a b : ℕ) : Type 0 where
   pub variables : (i : ℕ) → i < vars → i ≢ skip → entryFits (x .variable i) (y .variable i) ≡ true
 
 module _ (vars a b : ℕ) (x y : Row) where
-  pub rest-all : restFits vars a b x y ≡ true → Rest vars x y 16 a b
+  pub rest-all : restFits vars a b x y ≡ true → Rest vars x y 32 a b
   unfolding restFits stackFits depthsFit varsFit
   rest-all h =
       record {
