@@ -7,3 +7,4 @@ pub mod Accepted
 pub mod Invariant
 pub mod Moves
 pub mod Places
+pub mod Stack

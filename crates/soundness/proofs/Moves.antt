@@ -172,3 +172,10 @@ module _ (P : Program) (R : ℕ → ℕ → Row) (s : State) (i : ℕ) where
   pub branches : (b : Bool) (x y : Stepped) → (b ≡ true → Good P R s i x) → (b ≡ false → Good P R s i y) → Good P R s i (cond b x y)
   branches true x y g h = g refl
   branches false x y g h = h refl
+
+  -- the thread goes on as u, and nothing else changes
+  pub went-as : (u : Thread) → i < 8 → Inv P R s → Live P R (s .objects) (classOf s) (countOf (s .counts) i) u
+      → Good P R s i (record { answer = 0; state = withThread s i u })
+  went-as u li inv h =
+      went (withThread s i u)
+      (thread-moves P R s i li (others P R s inv i) u (live-standing P R (s .objects) (classOf s) (countOf (s .counts) i) u h))

@@ -4,7 +4,7 @@ use mathlib.Core.Path.{_≡_, refl}
 use mathlib.Core.Logic.{_≢_}
 use mathlib.Core.Bool.{Bool, true, false, cond}
 use native.Mathlib.Omega.{arith}
-use native.Mathlib.Decide.{decLt}
+use native.Mathlib.Decide.{ℕ-discrete, decLt}
 use lib.Dec.{ltb, leb, eqb}
 use borrow.Author.Tests.{leb-true, eqb-true, ne-eqb, lt-ltb, le-ltb}
 use Rattle.ground.proofs.Bools.{and-fst, and-snd, or-right}
@@ -83,6 +83,15 @@ module _ (vars a b : ℕ) (x y : Row) where
         entries = all-elim (restEntryFits a b x y) (x .depth - a) (search (and-fst, and-snd));
         variables = λ i l n. or-right (eqb i v) _ (all-elim (otherFits v x y) vars (search (and-fst, and-snd)) i l) (ne-eqb i v n);
       }
+
+  -- the named variable fits too
+  pub rest-with : (v : ℕ) → entryFits (x .variable v) (y .variable v) ≡ true → Rest vars x y v a b → Rest vars x y 32 a b
+  rest-with v f r =
+      record { enough = r .enough; depths = r .depths; entries = r .entries; variables = λ i l n. go i l (ℕ-discrete i v) }
+    where
+      go : (i : ℕ) → i < vars → Dec (i ≡ v) → entryFits (x .variable i) (y .variable i) ≡ true
+      go i l (yes q) = rw q f
+      go i l (no q) = r .variables i l q
 
 module _ (vars : ℕ) (v16 : vars ≤ 16) (x y : Row) where
   -- variables alone
