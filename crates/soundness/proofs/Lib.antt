@@ -8,3 +8,8 @@ pub mod Invariant
 pub mod Moves
 pub mod Places
 pub mod Stack
+pub mod Locks
+pub mod Ends
+pub mod Makes
+pub mod Fresh
+pub mod Starts

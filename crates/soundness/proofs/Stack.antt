@@ -248,7 +248,7 @@ module _ (P : Program) (R : ℕ → ℕ → Row) (A : Accepted P R) (s : State) 
   pop-good ad e =
       let f : restFits vars 1 0 here next ≡ true = search (and-fst, and-snd) in
       passes P R s i _ 11 _ (le-leb 1 (T .depth) (has-entries P R A (s .objects) cls cnt T H next 32 1 0 (rest-all vars 1 0 here next f)))
-      (pop-to (T .at .0 + 1) ad f (search (and-fst, and-snd)))
+      (pop-to (T .at .0 + 1) ad f (search and-fst))
 
   pub if-good : (a : Addr) → Next → Address P (T .class) (a .0) → ifRule vars here next (R (T .class) (a .0)) ≡ true → Good P R s i (ifStep s i T a)
   unfolding ifRule ifStep
@@ -266,14 +266,14 @@ module _ (P : Program) (R : ℕ → ℕ → Row) (A : Accepted P R) (s : State) 
   push0-good ad e =
       let r : Rest vars here next 32 0 1 = rest-all vars 0 1 here next (search (and-fst, and-snd)) in
       passes P R s i _ 12 _ (lt-ltb (T .depth) limit (has-room P R A (s .objects) cls cnt T H (T .at .0 + 1) 32 ad r))
-      (went-as P R s i _ li inv (push-live P R A (s .objects) cls cnt T H zeroSlot Int ad r refl refl tt (search (and-fst, and-snd))))
+      (went-as P R s i _ li inv (push-live P R A (s .objects) cls cnt T H zeroSlot Int ad r refl refl tt (search and-fst)))
 
   pub load-good : (v : Var) → v .0 < vars → Next → loadRule vars (v .0) here next ≡ true → Good P R s i (loadStep s i T limit v)
   unfolding loadRule loadStep
   load-good v l ad e =
       let r : Rest vars here next (v .0) 0 1 = rest-but vars 0 1 here next (v .0) (search (and-fst, and-snd)) in
       passes P R s i _ 12 _ (lt-ltb (T .depth) limit (has-room P R A (s .objects) cls cnt T H (T .at .0 + 1) (v .0) ad r))
-      (went-as P R s i _ li inv (load-live P R A (s .objects) cls cnt T H (v .0) l ad r (search (and-fst, and-snd))))
+      (went-as P R s i _ li inv (load-live P R A (s .objects) cls cnt T H (v .0) l ad r (search and-fst)))
 
   pub store-good : (v : Var) → v .0 < vars → Next → storeRule vars (v .0) here next ≡ true → Good P R s i (storeStep s i T v)
   unfolding storeRule storeStep
