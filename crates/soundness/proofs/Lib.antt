@@ -13,3 +13,4 @@ pub mod Ends
 pub mod Makes
 pub mod Fresh
 pub mod Starts
+pub mod Verified
