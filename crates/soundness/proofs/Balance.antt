@@ -83,13 +83,13 @@ module _ (n : ℕ) (cls : ℕ → ℕ) (E : ℕ → Entry) (v : ℕ → Value) (
           arith,
           t .dips o z,
           sum-two 32 (λ s. dip o (E′ s) (v′ s)) (λ s. dip o (E s) (v s)) a b 0 0 ab l (λ s j x y. h s j x y .dips o)
-          (rw (qa, qb) (split-dip (names o (v a)) (names o (v b)) (dipOf (E′ a)) (dipOf (E′ b)) (dipOf (E a)) (dipOf (E b)) ds)),
+              (rw (qa, qb) (split-dip (names o (v a)) (names o (v b)) (dipOf (E′ a)) (dipOf (E′ b)) (dipOf (E a)) (dipOf (E b)) ds)),
         );
         ends = λ o z. omega (
           arith,
           t .ends o z,
           sum-two 32 (λ s. end o (E′ s) (v′ s)) (λ s. end o (E s) (v s)) a b 0 0 ab l (λ s j x y. h s j x y .ends o)
-          (rw (qa, qb) (split-end (names o (v a)) (names o (v b)) (endOf (E′ a)) (endOf (E′ b)) (endOf (E a)) (endOf (E b)) (ap endOf u) es)),
+              (rw (qa, qb) (split-end (names o (v a)) (names o (v b)) (endOf (E′ a)) (endOf (E′ b)) (endOf (E a)) (endOf (E b)) (ap endOf u) es)),
         );
       }
     where
@@ -110,22 +110,22 @@ module _ (n : ℕ) (cls : ℕ → ℕ) (E : ℕ → Entry) (v : ℕ → Value) (
           arith,
           t .dips o z,
           sum-two 32 (λ s. dip o (E′ s) (v′ s)) (λ s. dip o (E s) (v s)) a b 0 0 ab l (λ s j x y. h s j x y .dips o)
-          (rw (qa, u) (omega (
-            arith,
-            cond-le (names o (v b)) (dipOf (E′ a)) (dipOf (E b)) 0 (f .dip-less),
-            cond-low (names o (v′ b)) 0 0 (omega arith),
-          ))),
+              (rw (qa, u) (omega (
+                arith,
+                cond-le (names o (v b)) (dipOf (E′ a)) (dipOf (E b)) 0 (f .dip-less),
+                cond-low (names o (v′ b)) 0 0 (omega arith),
+              ))),
         );
         ends = λ o z. omega (
           arith,
           t .ends o z,
           sum-two 32 (λ s. end o (E′ s) (v′ s)) (λ s. end o (E s) (v s)) a b 0 0 ab l (λ s j x y. h s j x y .ends o)
-          (rw (qa, u) (omega (
-            arith,
-            cond-le (names o (v b)) (endOf (E′ a)) (endOf (E b)) 64 (f .end-less),
-            cond-low (names o (v′ b)) 64 64 (omega arith),
-            cond-top (names o (v a)) (endOf (E a)) 64 g,
-          ))),
+              (rw (qa, u) (omega (
+                arith,
+                cond-le (names o (v b)) (endOf (E′ a)) (endOf (E b)) 64 (f .end-less),
+                cond-low (names o (v′ b)) 64 64 (omega arith),
+                cond-top (names o (v a)) (endOf (E a)) 64 g,
+              ))),
         );
       }
     where
@@ -152,13 +152,13 @@ module _ (n : ℕ) (cls : ℕ → ℕ) (E : ℕ → Entry) (v : ℕ → Value) (
             arith,
             t .dips o z,
             sum-one 32 (λ s. dip o (E′ s) (v′ s)) (λ s. dip o (E s) (v s)) a (k o) (m o) l (λ s j x. h s j x .dips o)
-            (rw qa (up-dip (names o (v a)) (dipOf (E′ a)) (dipOf (E a)) (k o) (m o) (up o z) (rest o z) ds)),
+                (rw qa (up-dip (names o (v a)) (dipOf (E′ a)) (dipOf (E a)) (k o) (m o) (up o z) (rest o z) ds)),
           );
           ends = λ o z. omega (
             arith,
             t .ends o z,
             sum-one 32 (λ s. end o (E′ s) (v′ s)) (λ s. end o (E s) (v s)) a (m o) (k o) l (λ s j x. h s j x .ends o)
-            (rw qa (up-end (names o (v a)) (endOf (E′ a)) (endOf (E a)) (k o) (m o) (up o z) (rest o z) es)),
+                (rw qa (up-end (names o (v a)) (endOf (E′ a)) (endOf (E a)) (k o) (m o) (up o z) (rest o z) es)),
           );
         }
 
@@ -171,13 +171,13 @@ module _ (n : ℕ) (cls : ℕ → ℕ) (E : ℕ → Entry) (v : ℕ → Value) (
             arith,
             t .dips o z,
             sum-one 32 (λ s. dip o (E′ s) (v′ s)) (λ s. dip o (E s) (v s)) a (k o) (m o) l (λ s j x. h s j x .dips o)
-            (rw qa (down-dip (names o (v a)) (dipOf (E′ a)) (dipOf (E a)) (k o) (m o) (down o z) (rest o z) ds)),
+                (rw qa (down-dip (names o (v a)) (dipOf (E′ a)) (dipOf (E a)) (k o) (m o) (down o z) (rest o z) ds)),
           );
           ends = λ o z. omega (
             arith,
             t .ends o z,
             sum-one 32 (λ s. end o (E′ s) (v′ s)) (λ s. end o (E s) (v s)) a (m o) (k o) l (λ s j x. h s j x .ends o)
-            (rw qa (down-end (names o (v a)) (endOf (E′ a)) (endOf (E a)) (k o) (m o) (down o z) (rest o z) es)),
+                (rw qa (down-end (names o (v a)) (endOf (E′ a)) (endOf (E a)) (k o) (m o) (down o z) (rest o z) es)),
           );
         }
 

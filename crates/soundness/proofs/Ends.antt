@@ -99,7 +99,7 @@ module _ (P : Program) (R : ℕ → ℕ → Row) (A : Accepted P R) (s : State) 
       let th : cond (eqb (h .0) 0) (varsGo vars here) (handledBy vars here (R (T .class) (h .0))) ≡ true = search and-snd in
       branches P R s i (eqb (h .0) 0) _ _ (λ q. end-good 2 (omega arith) (rw q at th) sg)
       (λ q. went-as P R s i _ li inv
-        (pop-live P R A (s .objects) cls cnt T H (T .depth) (h .0)
-          (record { class-known = H .address .class-known; first = omega (arith, eqb-false (h .0) 0 q); last = l })
-          (handler-rest (R (T .class) (h .0)) (rw q at th))
-          (λ j k. all-elim (entryGoes here) (here .depth) sg j (omega (arith, H .depth-exact)))))
+      (pop-live P R A (s .objects) cls cnt T H (T .depth) (h .0)
+      (record { class-known = H .address .class-known; first = omega (arith, eqb-false (h .0) 0 q); last = l })
+      (handler-rest (R (T .class) (h .0)) (rw q at th))
+      (λ j k. all-elim (entryGoes here) (here .depth) sg j (omega (arith, H .depth-exact)))))

@@ -67,7 +67,7 @@ module _ (P : Program) (R : ℕ → ℕ → Row) (A : Accepted P R) where
           address = record { class-known = lc; first = omega arith; last = A .formed .some-code c lc };
           depth-exact = sym (A .first-depth c lc);
           balanced = keep-all n cls (λ s. Blank) (valueIn vars stack) k (entryAt P R c 1) (valueIn vars stack)
-            (λ s l. each s l (decLt s (P .method c .args)) (decLt s Vars) (decLt s 16)) (none-balanced n cls (valueIn vars stack) k z);
+              (λ s l. each s l (decLt s (P .method c .args)) (decLt s Vars) (decLt s 16)) (none-balanced n cls (valueIn vars stack) k z);
         }
       where
         v16 : Vars ≤ 16
@@ -104,7 +104,7 @@ module _ (P : Program) (R : ℕ → ℕ → Row) (A : Accepted P R) where
           one-holder = λ i j o li lj lo x z. no-count j o lj lo;
         };
         thread = λ i l. rw (getD-replicate 8 i idle idle l)
-          (asleep-standing P R 0 (classOf emptyState) (countOf (replicate 256 0) i) idle refl
+            (asleep-standing P R 0 (classOf emptyState) (countOf (replicate 256 0) i) idle refl
             (record { sized = record { vars = refl; stack = refl }; free = λ o k. no-count i o l k }));
       }
 
@@ -114,4 +114,4 @@ module _ (P : Program) (R : ℕ → ℕ → Row) (A : Accepted P R) where
       thread-moves P R emptyState 0 (omega arith) (others P R emptyState inv-empty 0) mainThread
       (live-standing P R 0 (classOf emptyState) (countOf (replicate 256 0) 0) mainThread
       (born-live 0 (classOf emptyState) (countOf (replicate 256 0) 0) 0 (A .formed .some-class) (replicate 16 zeroSlot) (replicate 16 zeroSlot) refl refl
-        (λ o k. no-count 0 o (omega arith) k) (λ i l. absurd (omega (arith, A .formed .main-args))) (λ i l b. zeros i b)))
+      (λ o k. no-count 0 o (omega arith) k) (λ i l. absurd (omega (arith, A .formed .main-args))) (λ i l b. zeros i b)))

@@ -76,7 +76,7 @@ module _ (P : Program) (R : ℕ → ℕ → Row) (A : Accepted P R) (n : ℕ) (c
   bound-2016 =
       count-bound n cls (entryAt P R (t .class) (t .at .0)) (valueOf t) k (h .balanced)
       (λ s l. slot-each (P .method (t .class) .vars) vars-16 (R (t .class) (t .at .0)) (λ (e : Entry). 1 ≤ endOf e) (omega arith)
-        (λ i _. A .variable-end (t .class) (t .at .0) i) (λ j _. A .stack-end (t .class) (t .at .0) j) s)
+      (λ i _. A .variable-end (t .class) (t .at .0) i) (λ j _. A .stack-end (t .class) (t .at .0) j) s)
 
   pub off-object : (o : ℕ) → o < 32 → n ≤ o → k o ≡ 0
   off-object = far-free n cls (entryAt P R (t .class) (t .at .0)) (valueOf t) k (h .balanced)
@@ -89,8 +89,8 @@ module _ (P : Program) (R : ℕ → ℕ → Row) (A : Accepted P R) (n : ℕ) (c
         address-last = h .address .last;
         depth-limit = depth-limit;
         variable-refers = λ v l.
-          type-refers n cls (R (t .class) (t .at .0) .variable v) (varOf t v .value) (A .variable-type (t .class) (t .at .0) v (h .address) l)
-          (rw (slot-var (P .method (t .class) .vars) vars-16 (R (t .class) (t .at .0)) v l, value-var t v (omega (arith, vars-16))) at (h .balanced .kinds v (omega (arith, vars-16))));
+            type-refers n cls (R (t .class) (t .at .0) .variable v) (varOf t v .value) (A .variable-type (t .class) (t .at .0) v (h .address) l)
+            (rw (slot-var (P .method (t .class) .vars) vars-16 (R (t .class) (t .at .0)) v l, value-var t v (omega (arith, vars-16))) at (h .balanced .kinds v (omega (arith, vars-16))));
         stack-refers = λ p l. stk p (t .depth - p - 1) (omega arith);
       }
     where

@@ -14,3 +14,5 @@ pub mod Makes
 pub mod Fresh
 pub mod Starts
 pub mod Verified
+pub mod Steps
+pub mod Demand3

@@ -163,10 +163,10 @@ module _ (P : Program) (R : ℕ → ℕ → Row) (A : Accepted P R) (s : State) 
       (passes P R s i _ 16 _ (lt-ltb (cnt O) 2047 (omega (arith, bounded P R A s inv i O li lo)))
       (either P R s i _ 3 _ (omega arith) (omega arith) inv
       (λ a. count-goes (cnt O + 1) lo (λ _. free-others O a)
-        (enter-live P R A (s .objects) cls cnt T H (v .0) c d e l q ad r (search (and-fst, and-snd)) _
-          (λ o k x. count-other P R s i li away i O o (cnt O + 1) lo k (λ _. x))
-          (count-same P R s i li away O (cnt O + 1) lo)
-          (leb-true _ _ (search (and-fst, and-snd))) (leb-true _ _ (search (and-fst, and-snd)))))))
+      (enter-live P R A (s .objects) cls cnt T H (v .0) c d e l q ad r (search (and-fst, and-snd)) _
+      (λ o k x. count-other P R s i li away i O o (cnt O + 1) lo k (λ _. x))
+      (count-same P R s i li away O (cnt O + 1) lo)
+      (leb-true _ _ (search (and-fst, and-snd))) (leb-true _ _ (search (and-fst, and-snd)))))))
 
   pub enter-good : Next → enterRule vars (v .0) here next ≡ true → Good P R s i (enterStep s i T v)
   unfolding enterRule
@@ -196,9 +196,9 @@ module _ (P : Program) (R : ℕ → ℕ → Row) (A : Accepted P R) (s : State) 
       (passes P R s i _ 14 _ (lt-ltb 0 (cnt O) some)
       (count-goes (cnt O - 1) lo (λ _ j lj x. inv .whole .one-holder i j O li lj lo (λ p. x (sym p)) some)
       (exit-live P R A (s .objects) cls cnt T H (v .0) c d e l q ad r (search (and-fst, and-snd)) _
-        (λ o k x. count-other P R s i li away i O o (cnt O - 1) lo k (λ _. x))
-        (rw (count-same P R s i li away O (cnt O - 1) lo) (omega arith))
-        (leb-true _ _ (search (and-fst, and-snd))) (leb-true _ _ (search (and-fst, and-snd))))))
+      (λ o k x. count-other P R s i li away i O o (cnt O - 1) lo k (λ _. x))
+      (rw (count-same P R s i li away O (cnt O - 1) lo) (omega arith))
+      (leb-true _ _ (search (and-fst, and-snd))) (leb-true _ _ (search (and-fst, and-snd))))))
 
   -- monitorexit's rule: the thread holds the object that it leaves, and may leave it
   pub exit-good : Next → exitRule vars (v .0) here next ≡ true → Good P R s i (exitStep s i T v)

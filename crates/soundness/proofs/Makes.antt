@@ -66,7 +66,7 @@ module _ (P : Program) (R : ℕ → ℕ → Row) (A : Accepted P R) (s : State) 
       (thread-moves P R (grown s c) i li (object-grows P R s i li (others P R s inv i) c lc lo) _
       (live-standing P R (s .objects + 1) (classOf (grown s c)) cnt (withAt (pushed T (refSlot (s .objects))) (T .at .0 + 1))
       (push-live P R A (s .objects + 1) (classOf (grown s c)) cnt T more (refSlot (s .objects)) (Ref c 0 noEnd) ad r refl refl
-        (omega arith, getD-set-same (s .classes) (s .objects) c 0 (omega (arith, inv .whole .classes-32))) f)))))
+      (omega arith, getD-set-same (s .classes) (s .objects) c 0 (omega (arith, inv .whole .classes-32))) f)))))
     where
       more : Live P R (s .objects + 1) (classOf (grown s c)) cnt T
       more =
@@ -80,4 +80,4 @@ module _ (P : Program) (R : ℕ → ℕ → Row) (A : Accepted P R) (s : State) 
       branches P R s i (fails || leb 32 (s .objects)) _ _
       (λ _. throw-good P R A s inv i li lv h lh (search and-snd))
       (λ q. make-good c lc (leb-false 32 (s .objects) (or-false-snd fails (leb 32 (s .objects)) q)) ad
-        (rest-all vars 0 1 here next (search (and-fst, and-snd))) (search and-fst))
+      (rest-all vars 0 1 here next (search (and-fst, and-snd))) (search and-fst))

@@ -93,7 +93,7 @@ module _ (P : Program) (R : ℕ → ℕ → Row) where
             one-holder = λ j k p lj lk lp x z. sole j k p lj lk lp x z (ℕ-discrete p o) (ℕ-discrete j i) (ℕ-discrete k i);
           };
           thread = λ j l n′. standing-more (s .objects) (classOf s) (countOf (s .counts) j) (s .objects) (classOf s) _ (threadAt s j) (omega arith) (λ r _. refl)
-            (λ p lp. count-other j o p n lo lp (λ q. absurd (n′ q))) (h .thread j l n′);
+              (λ p lp. count-other j o p n lo lp (λ q. absurd (n′ q))) (h .thread j l n′);
         }
       where
         sole : (j k p : ℕ) → j < 8 → k < 8 → p < 32 → j ≢ k → 0 < countOf (set (s .counts) (i * 32 + o) n) j p → Dec (p ≡ o) → Dec (j ≡ i) → Dec (k ≡ i)
@@ -126,7 +126,7 @@ module _ (P : Program) (R : ℕ → ℕ → Row) where
             one-holder = h .whole .one-holder;
           };
           thread = λ j l n. standing-more (s .objects) (classOf s) (countOf (s .counts) j) (s .objects + 1) (classOf (grown s c)) (countOf (s .counts) j) (threadAt s j) (omega arith)
-            (λ r k. getD-set-other (s .classes) (s .objects) r c 0 (omega arith)) (λ o _. refl) (h .thread j l n);
+              (λ r k. getD-set-other (s .classes) (s .objects) r c 0 (omega arith)) (λ o _. refl) (h .thread j l n);
         }
       where
         class : (o : ℕ) → o < s .objects + 1 → Dec (o ≡ s .objects) → classOf (grown s c) o < P .classes

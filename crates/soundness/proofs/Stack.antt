@@ -114,14 +114,14 @@ module _ (P : Program) (R : ℕ → ℕ → Row) (A : Accepted P R) (n : ℕ) (c
         address = ad;
         depth-exact = omega (arith, r .depths, r .enough, h .depth-exact);
         balanced = keep-move n cls (entryAt P R C (t .at .0)) (valueOf t) k (entryAt P R C (t .at .0 + 1)) _ v (15 + t .depth) (omega (arith, v16, en)) (omega (arith, d16))
-          (λ s l a b. each s l a b (decLt s (15 + t .depth)))
-          (value-fill (set (t .vars) v (topOf t)) (t .stack) (t .depth - 1) 1 v (omega (arith, v16))
+            (λ s l a b. each s l a b (decLt s (15 + t .depth)))
+            (value-fill (set (t .vars) v (topOf t)) (t .stack) (t .depth - 1) 1 v (omega (arith, v16))
             ∙ value-store (t .vars) (t .stack) v (topOf t) (omega (arith, v16)) (omega (arith, v16, h .sized .vars))
             ∙ sym (value-entry t (15 + t .depth) 0 (omega (arith, en)) (omega arith)))
-          (slot-nostack Vars v16 Y (15 + t .depth) (omega (arith, r .depths, h .depth-exact)))
-          (rw (slot-var Vars v16 X v lv) (goes-end (X .variable v) g))
-          (rw (slot-stack Vars v16 X (15 + t .depth) 0 (omega (arith, en)) (omega (arith, h .depth-exact)), slot-var Vars v16 Y v lv) (fits-weaker (X .stack 0) (Y .variable v) f))
-          (h .balanced);
+            (slot-nostack Vars v16 Y (15 + t .depth) (omega (arith, r .depths, h .depth-exact)))
+            (rw (slot-var Vars v16 X v lv) (goes-end (X .variable v) g))
+            (rw (slot-stack Vars v16 X (15 + t .depth) 0 (omega (arith, en)) (omega (arith, h .depth-exact)), slot-var Vars v16 Y v lv) (fits-weaker (X .stack 0) (Y .variable v) f))
+            (h .balanced);
       }
     where
       en : 1 ≤ t .depth
@@ -149,15 +149,15 @@ module _ (P : Program) (R : ℕ → ℕ → Row) (A : Accepted P R) (n : ℕ) (c
         address = ad;
         depth-exact = omega (arith, r .depths, h .depth-exact);
         balanced = keep-split n cls (entryAt P R C (t .at .0)) (valueOf t) k (entryAt P R C (t .at .0 + 1)) _ v (16 + t .depth) (omega (arith, v16)) (omega (arith, below))
-          each
-          (value-set-other (t .vars) (t .stack) (t .depth) v (varOf t v) (omega (arith, v16)))
-          (value-set (t .vars) (t .stack) (t .depth) (16 + t .depth) (varOf t v) (omega (arith, below, h .sized .stack)) refl ∙ sym (value-var t v (omega (arith, v16))))
-          (slot-nostack Vars v16 X (16 + t .depth) (omega (arith, h .depth-exact)))
-          (rw (sx, sy) (goes-kind n cls c d e (Y .variable v) (valueOf t v) (search (and-fst, and-snd))))
-          (rw (sx, sz) (goes-kind n cls c d e (Y .stack 0) (valueOf t v) (search (and-fst, and-snd))))
-          (rw (sx, sy, sz) (leb-true _ _ (search (and-fst, and-snd))))
-          (rw (sx, sy, sz) (leb-true _ _ (search (and-fst, and-snd))))
-          (h .balanced);
+            each
+            (value-set-other (t .vars) (t .stack) (t .depth) v (varOf t v) (omega (arith, v16)))
+            (value-set (t .vars) (t .stack) (t .depth) (16 + t .depth) (varOf t v) (omega (arith, below, h .sized .stack)) refl ∙ sym (value-var t v (omega (arith, v16))))
+            (slot-nostack Vars v16 X (16 + t .depth) (omega (arith, h .depth-exact)))
+            (rw (sx, sy) (goes-kind n cls c d e (Y .variable v) (valueOf t v) (search (and-fst, and-snd))))
+            (rw (sx, sz) (goes-kind n cls c d e (Y .stack 0) (valueOf t v) (search (and-fst, and-snd))))
+            (rw (sx, sy, sz) (leb-true _ _ (search (and-fst, and-snd))))
+            (rw (sx, sy, sz) (leb-true _ _ (search (and-fst, and-snd))))
+            (h .balanced);
       })
     where
       below : t .depth < 16

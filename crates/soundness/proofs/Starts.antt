@@ -107,8 +107,8 @@ module _ (P : Program) (R : ℕ → ℕ → Row) (A : Accepted P R) (s : State) 
     unfolding argumentsOk objectGoes
     arguments-ok =
         rw (all-intro (argumentAt (s .classes) T descriptor) args
-          (λ j l. argument-is (s .objects) (s .classes) (descriptor j) (here .stack j) (entryOf T j)
-            (and-fst (matches (descriptor j) (here .stack j)) (mayGo (here .stack j)) (argument-goes j l)) (kind j (omega arith))))
+        (λ j l. argument-is (s .objects) (s .classes) (descriptor j) (here .stack j) (entryOf T j)
+        (and-fst (matches (descriptor j) (here .stack j)) (mayGo (here .stack j)) (argument-goes j l)) (kind j (omega arith))))
         (object-is (s .objects) (s .classes) c (here .stack args) (entryOf T args) (and-fst (isOf c (here .stack args)) (mayGo (here .stack args)) og) (kind args (omega arith)))
 
     -- the new thread
@@ -119,8 +119,8 @@ module _ (P : Program) (R : ℕ → ℕ → Row) (A : Accepted P R) (s : State) 
         born-live P R A (s .objects) cls (countOf (s .counts) j) c lc (setBelow args (entryOf T) (replicate 16 zeroSlot)) (threadAt s j .stack)
         (set-length (entryOf T) (replicate 16 zeroSlot) args ∙ length-replicate 16 zeroSlot) (a .sized .stack) (a .free)
         (λ p l. rw (value-argument args p (entryOf T) (threadAt s j .stack) l n16)
-          (argument-kind (s .objects) cls (descriptor p) (here .stack p) (entryOf T p .value)
-            (and-fst (matches (descriptor p) (here .stack p)) (mayGo (here .stack p)) (argument-goes p l)) (kind p (omega arith))))
+        (argument-kind (s .objects) cls (descriptor p) (here .stack p) (entryOf T p .value)
+        (and-fst (matches (descriptor p) (here .stack p)) (mayGo (here .stack p)) (argument-goes p l)) (kind p (omega arith))))
         (λ p l b. value-zero args p (entryOf T) (threadAt s j .stack) l b)
 
     -- the starter goes on
@@ -129,8 +129,8 @@ module _ (P : Program) (R : ℕ → ℕ → Row) (A : Accepted P R) (s : State) 
     starts ad j lj d =
         let u : Thread = started (threadAt s j) T c args in
         let one : Inv P R (withThread s j u) =
-            thread-moves P R s j lj (others P R s inv j) u
-            (live-standing P R (s .objects) cls (countOf (s .counts) j) u (started-live j (inv .thread j lj .asleep d))) in
+        thread-moves P R s j lj (others P R s inv j) u
+        (live-standing P R (s .objects) cls (countOf (s .counts) j) u (started-live j (inv .thread j lj .asleep d))) in
         went P R s i _
         (thread-moves P R (withThread s j u) i li (others P R (withThread s j u) one i) _
         (live-standing P R (s .objects) cls cnt (withAt (popped (args + 1) T) (T .at .0 + 1))

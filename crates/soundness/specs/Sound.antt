@@ -48,7 +48,7 @@ pub record Sound (b : List ℕ) (s : State) (x : Step) : Type 0 where
   pub no-fault : answer b s x ≤ 5
   -- no thread leaves a lock it does not hold
   pub leaves-held : (t : ℕ) (v : Var) → t < 8 → threadAt s t .live ≡ true → next b s t ≡ Exit v
-    → 0 < holds s t (objectOf (varOf (threadAt s t) (v .0)))
+      → 0 < holds s t (objectOf (varOf (threadAt s t) (v .0)))
   -- a thread that ends, by return or uncaught exception, held nothing and holds nothing then
   pub ends-free : (answer b s x ≡ 1) ⊎ (answer b s x ≡ 2) → (o : ℕ) → o < 32 → (holds s (x .who) o ≡ 0) × (holds (after b s x) (x .who) o ≡ 0)
   -- a thread that isn't live holds nothing
