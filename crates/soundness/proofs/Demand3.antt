@@ -1,10 +1,10 @@
 -- DEMAND 3: for an accepted bundle, a fresh machine and any list of steps, one more step is `Sound`. By the invariant `Inv`, which every step keeps.
-use Prim.Native.Nat.{ℕ, _≤_, _<_}
-use mathlib.Core.Path.{_≡_, refl}
+use Prim.Native.Nat.{ℕ}
+use mathlib.Core.Path.{_≡_}
 use mathlib.Core.List.{List, [], _∷_}
-use mathlib.Core.Bool.{Bool, true, false, _&&_}
+use mathlib.Core.Bool.{Bool, true, _&&_}
 use native.Mathlib.Omega.{arith}
-use lib.Dec.{ltb, eqb}
+use lib.Dec.{ltb}
 use borrow.Author.Tests.{ltb-true, eq-eqb}
 use Rattle.ground.specs.Chain.{refuse}
 use Rattle.ground.proofs.Bools.{and-fst, and-snd}
@@ -14,10 +14,9 @@ use Rattle.rows.specs.Rows.{Row}
 use Rattle.verifier.specs.Verdict.{verdictOf}
 use Rattle.verifier.proofs.FirstBroken.{agrees-back}
 use Rattle.state.specs.declared.State.{State}
-use Rattle.state.specs.State.{threadAt, countOf}
-use Rattle.machine.specs.Machine.{readable, freshState, freshOf, stepOf}
-use Rattle.soundness.specs.Sound.{Step, answer, after, run, reached, holds, Sound}
-use Rattle.soundness.proofs.Accepted.{Accepted}
+use Rattle.state.specs.State.{threadAt}
+use Rattle.machine.specs.Machine.{readable, freshOf, stepOf}
+use Rattle.soundness.specs.Sound.{Step, after, run, reached, Sound}
 use Rattle.soundness.proofs.Verified.{rowsOf, accepted}
 use Rattle.soundness.proofs.Invariant.{Inv, bounded, state-ok}
 use Rattle.soundness.proofs.Moves.{Good, passes, either}

@@ -1,11 +1,9 @@
 -- athrow, return and a failed new: a thread ends only where everything may go, and then it holds nothing.
-use Prim.Native.Nat.{ℕ, _+_, _-_, _≤_, _<_}
-use mathlib.Core.Path.{_≡_, refl, sym, _∙_}
-use mathlib.Core.Logic.{_⊎_}
-use mathlib.Core.Bool.{Bool, true, false, cond, _&&_}
+use Prim.Native.Nat.{ℕ, _≤_, _<_}
+use mathlib.Core.Path.{_≡_, refl, _∙_}
+use mathlib.Core.Bool.{true, cond}
 use native.Mathlib.Omega.{arith}
 use lib.Dec.{eqb}
-use lib.ListN.{length}
 use borrow.Author.Tests.{eqb-true, eqb-false, eq-eqb}
 use Rattle.ground.proofs.Bools.{and-fst, and-snd}
 use Rattle.ground.proofs.Bounded.{all-elim, all-intro}
@@ -19,12 +17,12 @@ use Rattle.values.specs.Values.{zeroSlot}
 use Rattle.threads.specs.declared.Thread.{Thread}
 use Rattle.threads.specs.Threads.{ended}
 use Rattle.state.specs.declared.State.{State}
-use Rattle.state.specs.State.{threadAt, countOf, classOf, withThread, isFree, holdsNothing}
+use Rattle.state.specs.State.{threadAt, countOf, classOf, isFree, holdsNothing}
 use Rattle.machine.specs.Instructions.{endStep, throwStep}
 use Rattle.soundness.proofs.Balance.{all-go}
 use Rattle.soundness.proofs.Slots.{Rest, all-end}
-use Rattle.soundness.proofs.Values.{Sixteen, valueOf}
-use Rattle.soundness.proofs.Accepted.{Address, Accepted}
+use Rattle.soundness.proofs.Values.{valueOf}
+use Rattle.soundness.proofs.Accepted.{Accepted}
 use Rattle.soundness.proofs.Invariant.{entryAt, Live, Asleep, Inv, vars-16}
 use Rattle.soundness.proofs.Moves.{others, asleep-standing, thread-moves, Good, passes, branches, went-as}
 use Rattle.soundness.proofs.Places.{pop-live}

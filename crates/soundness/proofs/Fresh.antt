@@ -7,11 +7,10 @@ use native.Mathlib.Omega.{arith}
 use native.Mathlib.Decide.{decLt}
 use lib.Dec.{eqb}
 use lib.IntN.{pos}
-use lib.ListN.{length, getD, replicate, getD-replicate}
+use lib.ListN.{length, replicate, getD-replicate}
 use Rattle.ground.specs.Bounded.{setBelow}
 use Rattle.instructions.specs.Table.{addr}
 use Rattle.bundle.specs.Program.{Program}
-use Rattle.entries.specs.declared.Entry.{Entry}
 use Rattle.entries.specs.declared.Entry.the-variants.{Int, Top, Ref, Blank}
 use Rattle.entries.specs.Entries.{noEnd, dipOf, endOf, argumentEntry}
 use Rattle.rows.specs.Rows.{Row}
@@ -27,9 +26,9 @@ use Rattle.soundness.proofs.Weights.{same-weaker, fits-weaker, gone-slo
 use Rattle.soundness.proofs.Weights as weights
 use Rattle.soundness.proofs.Balance.{keep-all, none-balanced}
 use Rattle.soundness.proofs.Slots.{slotOf, slot-var, slot-novar, slot-nostack}
-use Rattle.soundness.proofs.Values.{valueIn, valueOf, value-zero}
-use Rattle.soundness.proofs.Accepted.{Address, Accepted}
-use Rattle.soundness.proofs.Invariant.{entryAt, Live, Standing, Inv}
+use Rattle.soundness.proofs.Values.{valueIn, value-zero}
+use Rattle.soundness.proofs.Accepted.{Accepted}
+use Rattle.soundness.proofs.Invariant.{entryAt, Live, Inv}
 use Rattle.soundness.proofs.Moves.{others, live-standing, asleep-standing, thread-moves}
 
 abbrev pub born : ℕ → List Slot → List Slot → Thread

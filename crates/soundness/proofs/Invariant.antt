@@ -1,6 +1,6 @@
 -- The invariant of the whole machine that later theorems cite: `Inv`. P is the program, R its rows by class and address.
 use Prim.Native.Nat.{ℕ, _+_, _-_, _≤_, _<_}
-use mathlib.Core.Path.{_≡_, refl, sym, _∙_}
+use mathlib.Core.Path.{_≡_, refl}
 use mathlib.Core.Logic.{_≢_}
 use mathlib.Core.Bool.{Bool, true, false}
 use native.Mathlib.Omega.{arith}
@@ -8,7 +8,7 @@ use native.Mathlib.Decide.{ℕ-discrete, decLt}
 use lib.ListN.{length, getD}
 use Rattle.bundle.specs.Program.{Program}
 use Rattle.entries.specs.declared.Entry.{Entry}
-use Rattle.entries.specs.Entries.{noEnd, endOf, isType}
+use Rattle.entries.specs.Entries.{noEnd, endOf}
 use Rattle.rows.specs.Rows.{Row}
 use Rattle.values.specs.Values.{zeroSlot, refers}
 use Rattle.threads.specs.declared.Thread.{Thread}

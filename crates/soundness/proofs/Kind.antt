@@ -1,11 +1,11 @@
 -- Which values an entry may stand for: kinds, apart from what an entry weighs. There are n objects, of the classes cls.
 use mathlib.Core.Path.{_≡_, refl, sym, _∙_}
-use mathlib.Core.Bool.{Bool, true, false, cond, not, _&&_, false≢true}
+use mathlib.Core.Bool.{Bool, true, false, cond, false≢true}
 use Prim.Native.Nat.{ℕ, _≤_, _<_}
 use native.Mathlib.Omega.{arith}
-use lib.Dec.{leb, eqb}
-use borrow.Author.Tests.{eqb-true, eq-eqb, lt-ltb}
-use Rattle.ground.proofs.Bools.{and-fst, and-snd}
+use lib.Dec.{eqb}
+use borrow.Author.Tests.{eqb-true, lt-ltb}
+use Rattle.ground.proofs.Bools.{and-fst}
 use Rattle.entries.specs.declared.Entry.{Entry}
 use Rattle.entries.specs.declared.Entry.the-variants.{Int, Top, Ref, Blank, Malformed}
 use Rattle.entries.specs.Entries.{noEnd, isInt, isType, isOf, argumentEntry, matches}

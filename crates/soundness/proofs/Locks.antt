@@ -2,9 +2,9 @@
 use Prim.Native.Nat.{ℕ, _+_, _-_, _*_, _≤_, _<_}
 use mathlib.Core.Path.{_≡_, refl, sym, ap, _∙_}
 use mathlib.Core.Logic.{_≢_}
-use mathlib.Core.Bool.{Bool, true, false, not, _||_}
+use mathlib.Core.Bool.{true, false, not}
 use native.Mathlib.Omega.{arith}
-use lib.Dec.{leb, eqb}
+use lib.Dec.{eqb}
 use lib.ListN.{set}
 use borrow.Author.Tests.{leb-true, lt-ltb, eqb-true, eqb-false, eq-eqb, ne-eqb}
 use Rattle.ground.proofs.Bools.{and-fst, and-snd, or-right}
@@ -16,13 +16,12 @@ use Rattle.entries.specs.declared.Entry.the-variants.{Int, Top, Ref, Blank, Mal
 use Rattle.entries.specs.Entries.{dipOf, endOf}
 use Rattle.entries.specs.Fits.{goesAs, pairEnters, enterMoves, pairExits, exitMoves}
 use Rattle.rows.specs.Rows.{Row}
-use Rattle.matching.specs.Matching.{restFitsBut}
 use Rattle.rules.specs.Rules.{enterRule, exitRule}
 use Rattle.values.specs.Values.{isInt, objectOf}
 use Rattle.threads.specs.declared.Thread.{Thread}
 use Rattle.threads.specs.Threads.{varOf, withAt}
 use Rattle.state.specs.declared.State.{State}
-use Rattle.state.specs.State.{threadAt, countOf, classOf, withThread, withCount, freeOf, othersFree}
+use Rattle.state.specs.State.{threadAt, countOf, classOf, withCount, freeOf, othersFree}
 use Rattle.machine.specs.Answers.{wentOn}
 use Rattle.machine.specs.Instructions.{enterObject, enterStep, exitObject, exitStep}
 use Rattle.soundness.proofs.Kind.{Matches, nope, goes-kind, ref-value}

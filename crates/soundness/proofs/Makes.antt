@@ -1,7 +1,7 @@
 -- new: one object more, of weight (0,0) on the stack; or it fails, and throws.
 use Prim.Native.Nat.{ℕ, _+_, _≤_, _<_}
 use mathlib.Core.Path.{_≡_, refl}
-use mathlib.Core.Bool.{Bool, true, false, _||_}
+use mathlib.Core.Bool.{Bool, true, _||_}
 use native.Mathlib.Omega.{arith}
 use lib.Dec.{leb}
 use lib.Seq.{getD-set-same, getD-set-other}
@@ -13,12 +13,12 @@ use Rattle.entries.specs.declared.Entry.the-variants.{Ref}
 use Rattle.entries.specs.Entries.{noEnd}
 use Rattle.entries.specs.Fits.{entryFits}
 use Rattle.rows.specs.Rows.{Row}
-use Rattle.rules.specs.Rules.{throwRule, newRule}
+use Rattle.rules.specs.Rules.{newRule}
 use Rattle.values.specs.Values.{refSlot}
 use Rattle.threads.specs.declared.Thread.{Thread}
 use Rattle.threads.specs.Threads.{withAt, pushed}
 use Rattle.state.specs.declared.State.{State}
-use Rattle.state.specs.State.{threadAt, countOf, classOf, withObject}
+use Rattle.state.specs.State.{threadAt, countOf, classOf}
 use Rattle.machine.specs.Instructions.{makeStep, newStep}
 use Rattle.machine.proofs.Changes.{grown}
 use Rattle.soundness.proofs.Slots.{Rest, rest-all}

@@ -1,29 +1,27 @@
 -- Places of a live thread that come into use and fall out of it: what a push and what pops make of the thread is live again.
 use Prim.Native.Nat.{ℕ, _+_, _-_, _≤_, _<_}
-use mathlib.Core.Path.{_≡_, refl, sym, _∙_}
-use mathlib.Core.Logic.{_≢_}
+use mathlib.Core.Path.{_≡_, _∙_}
 use mathlib.Core.Bool.{true}
 use native.Mathlib.Omega.{arith}
 use native.Mathlib.Decide.{ℕ-discrete, decLt}
-use lib.ListN.{length, set, length-set}
+use lib.ListN.{set, length-set}
 use Rattle.ground.specs.Bounded.{fillFrom}
 use Rattle.ground.proofs.Writes.{fill-length}
 use Rattle.bundle.specs.Program.{Program}
 use Rattle.entries.specs.declared.Entry.{Entry}
-use Rattle.entries.specs.declared.Entry.the-variants.{Blank}
 use Rattle.entries.specs.Entries.{noEnd, dipOf, endOf}
 use Rattle.entries.specs.Fits.{entryFits, mayGo}
 use Rattle.rows.specs.Rows.{Row}
 use Rattle.values.specs.declared.Slot.{Slot}
 use Rattle.values.specs.Values.{zeroSlot}
 use Rattle.threads.specs.declared.Thread.{Thread}
-use Rattle.threads.specs.Threads.{entryOf, varOf, withAt, withStack, pushed, popped}
+use Rattle.threads.specs.Threads.{entryOf, varOf, withAt, pushed, popped}
 use Rattle.soundness.proofs.Kind.{Matches}
-use Rattle.soundness.proofs.Weights.{Weaker, fits-weaker, goes-end, kept-slot, gone-slot, fresh-slot}
+use Rattle.soundness.proofs.Weights.{fits-weaker, goes-end, kept-slot, gone-slot, fresh-slot}
 use Rattle.soundness.proofs.Weights as weights
-use Rattle.soundness.proofs.Balance.{Balanced, keep-all}
+use Rattle.soundness.proofs.Balance.{keep-all}
 use Rattle.soundness.proofs.Slots.{slotOf, slot-var, slot-stack, slot-nostack, Rest, low-weaker, rest-weaker}
-use Rattle.soundness.proofs.Values.{Sixteen, valueIn, valueOf, value-var, value-entry, value-set, value-set-other, value-fill, pushed-is}
+use Rattle.soundness.proofs.Values.{valueIn, valueOf, value-var, value-entry, value-set, value-set-other, value-fill, pushed-is}
 use Rattle.soundness.proofs.Accepted.{Address, Accepted}
 use Rattle.soundness.proofs.Invariant.{entryAt, Live, vars-16, limit-16, depth-limit}
 

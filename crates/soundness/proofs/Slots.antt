@@ -1,18 +1,18 @@
 -- A row as 32 slots: slot i below 16 is variable i, slot 16 + p the stack's place p from the bottom. `Blank` where there is no such place. What the rules' shared words say of slots.
 use Prim.Native.Nat.{ℕ, _+_, _-_, _≤_, _<_}
-use mathlib.Core.Path.{_≡_, refl}
+use mathlib.Core.Path.{_≡_}
 use mathlib.Core.Logic.{_≢_}
-use mathlib.Core.Bool.{Bool, true, false, cond}
+use mathlib.Core.Bool.{true, cond}
 use native.Mathlib.Omega.{arith}
 use native.Mathlib.Decide.{ℕ-discrete, decLt}
-use lib.Dec.{ltb, leb, eqb}
+use lib.Dec.{ltb, eqb}
 use borrow.Author.Tests.{leb-true, eqb-true, ne-eqb, lt-ltb, le-ltb}
 use Rattle.ground.proofs.Bools.{and-fst, and-snd, or-right}
 use Rattle.ground.proofs.Bounded.{all-elim}
 use Rattle.entries.specs.declared.Entry.{Entry}
 use Rattle.entries.specs.declared.Entry.the-variants.{Blank}
 use Rattle.entries.specs.Entries.{noEnd, endOf}
-use Rattle.entries.specs.Fits.{entryFits, mayGo}
+use Rattle.entries.specs.Fits.{entryFits}
 use Rattle.rows.specs.Rows.{Row}
 use Rattle.matching.specs.Matching.{varFits, varsFit, otherFits, othersFit, depthsFit, restEntryFits, stackFits, restFits, restFitsBut, varGoes, varsGo, entryGoes, stackGoes}
 use Rattle.soundness.proofs.Weights.{Weaker, same-weaker, fits-weaker, goes-end}

@@ -2,12 +2,10 @@
 use Prim.Native.Nat.{ℕ, _+_, _-_, _≤_, _<_}
 use mathlib.Core.Path.{_≡_, refl, sym, _∙_}
 use mathlib.Core.Logic.{_≢_}
-use mathlib.Core.Bool.{Bool, true, false, cond, _&&_}
+use mathlib.Core.Bool.{true}
 use native.Mathlib.Omega.{arith}
 use native.Mathlib.Decide.{ℕ-discrete, decLt}
-use lib.Dec.{leb}
-use lib.IntN.{pos}
-use lib.ListN.{length, set, length-set}
+use lib.ListN.{set, length-set}
 use borrow.Author.Tests.{leb-true, le-leb, lt-ltb}
 use Rattle.ground.specs.Bounded.{fillFrom}
 use Rattle.ground.proofs.Bools.{and-fst, and-snd}
@@ -18,28 +16,27 @@ use Rattle.bundle.specs.Program.{Program}
 use Rattle.entries.specs.declared.Entry.{Entry}
 use Rattle.entries.specs.declared.Entry.the-variants.{Int, Top, Ref, Blank, Malformed}
 use Rattle.entries.specs.Entries.{noEnd, dipOf, endOf, isInt, isTop}
-use Rattle.entries.specs.Fits.{intFits, entryFits, mayGo, goesAs, pairSplits, loadSplits}
+use Rattle.entries.specs.Fits.{intFits, entryFits, mayGo, pairSplits, loadSplits}
 use Rattle.rows.specs.Rows.{Row}
-use Rattle.matching.specs.Matching.{restFits, restFitsBut}
+use Rattle.matching.specs.Matching.{restFits}
 use Rattle.rules.specs.Rules.{incRule, popRule, push0Rule, loadRule, storeRule, ifRule}
-use Rattle.values.specs.declared.Slot.{Slot}
 use Rattle.values.specs.Values.{zeroSlot, incSlot, jumps}
 use Rattle.values.specs.Values as values
 use Rattle.threads.specs.declared.Thread.{Thread}
-use Rattle.threads.specs.Threads.{entryOf, topOf, varOf, withAt, withStack, withVars, topped, pushed, popped, stored}
+use Rattle.threads.specs.Threads.{topOf, varOf, withAt, topped, pushed, popped, stored}
 use Rattle.state.specs.declared.State.{State}
 use Rattle.state.specs.State.{threadAt, countOf, classOf}
-use Rattle.machine.specs.Answers.{wentTo, wentOn}
+use Rattle.machine.specs.Answers.{wentTo}
 use Rattle.machine.specs.Instructions.{incStep, popStep, push0Step, loadStep, storeStep, ifStep}
-use Rattle.soundness.proofs.Kind.{Matches, nope, int-value, int-inc, goes-kind}
+use Rattle.soundness.proofs.Kind.{nope, int-value, int-inc, goes-kind}
 use Rattle.soundness.proofs.Weights.{Weaker, fits-weaker, goes-end, kept-slot, gone-slot, light-slot}
 use Rattle.soundness.proofs.Weights as weights
-use Rattle.soundness.proofs.Balance.{Balanced, keep-all, keep-move, keep-split}
+use Rattle.soundness.proofs.Balance.{keep-all, keep-move, keep-split}
 use Rattle.soundness.proofs.Slots.{slotOf, slot-var, slot-stack, slot-nostack, Rest, rest-all, rest-but, rest-with, low-weaker, rest-weaker}
 use Rattle.soundness.proofs.Values.{valueIn, valueOf, value-var, value-entry, value-set, value-set-other, value-store, value-store-other, value-fill, pushed-is}
 use Rattle.soundness.proofs.Accepted.{Address, Accepted}
 use Rattle.soundness.proofs.Invariant.{entryAt, Live, Inv, vars-16, limit-16, depth-limit}
-use Rattle.soundness.proofs.Moves.{Good, went, passes, branches, went-as}
+use Rattle.soundness.proofs.Moves.{Good, passes, branches, went-as}
 use Rattle.soundness.proofs.Places.{variable-kind, entry-kind, has-entries, has-room, pop-live, push-live}
 
 int-goes : (e : Entry) → isInt e ≡ true → mayGo e ≡ true

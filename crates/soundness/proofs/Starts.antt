@@ -1,12 +1,12 @@
 -- start: the starter gives up its arguments and the object, and a thread is born with them.
 use Prim.Native.Nat.{ℕ, _+_, _≤_, _<_}
-use mathlib.Core.Path.{_≡_, refl, sym, ap, _∙_}
+use mathlib.Core.Path.{_≡_, _∙_}
 use mathlib.Core.List.{List}
-use mathlib.Core.Bool.{Bool, true, false, cond, not, _&&_}
+use mathlib.Core.Bool.{Bool, true, false, cond, _&&_}
 use native.Mathlib.Omega.{arith}
 use native.Mathlib.Decide.{ℕ-discrete}
 use lib.Dec.{eqb}
-use lib.ListN.{length, getD, replicate, length-replicate}
+use lib.ListN.{getD, replicate, length-replicate}
 use borrow.Author.Tests.{not-true, le-leb, ltb-true, eq-eqb}
 use Rattle.ground.specs.Bounded.{setBelow}
 use Rattle.ground.proofs.Bools.{and-fst, and-snd}
@@ -17,7 +17,6 @@ use Rattle.entries.specs.declared.Entry.{Entry}
 use Rattle.entries.specs.Entries.{noEnd, isInt, isOf, matches}
 use Rattle.entries.specs.Fits.{mayGo}
 use Rattle.rows.specs.Rows.{Row}
-use Rattle.matching.specs.Matching.{restFits}
 use Rattle.rules.specs.Rules.{argumentGoes, argumentsGo, objectGoes, startRule}
 use Rattle.values.specs.declared.Slot.{Slot}
 use Rattle.values.specs.Values.{zeroSlot}
@@ -29,12 +28,12 @@ use Rattle.state.specs.State.{threadAt, countOf, classOf, withThread, notLive, 
 use Rattle.machine.specs.Instructions.{isObject, isArgument, argumentAt, argumentsOk, startedBy, startStep}
 use Rattle.soundness.proofs.Kind.{Matches, int-value, of-value, ref-value, argument-kind}
 use Rattle.soundness.proofs.Slots.{Rest, rest-all}
-use Rattle.soundness.proofs.Values.{valueIn, value-argument, value-zero}
+use Rattle.soundness.proofs.Values.{value-argument, value-zero}
 use Rattle.soundness.proofs.Accepted.{Address, Accepted}
-use Rattle.soundness.proofs.Invariant.{Live, Asleep, Inv, limit-16, depth-limit}
+use Rattle.soundness.proofs.Invariant.{Live, Asleep, Inv}
 use Rattle.soundness.proofs.Moves.{others, live-standing, thread-moves, Good, went, passes, either}
 use Rattle.soundness.proofs.Places.{entry-kind, has-entries, pop-live}
-use Rattle.soundness.proofs.Fresh.{born, born-live}
+use Rattle.soundness.proofs.Fresh.{born-live}
 
 -- ---- no fault 13
 object-is : (n : ℕ) (classes : List ℕ) (c : ℕ) (e : Entry) (x : Slot) → isOf c e ≡ true → Matches n (λ o. getD classes o 0) e (x .value) → isObject classes c x ≡ true

@@ -4,12 +4,12 @@ use mathlib.Core.Path.{_≡_, refl}
 use mathlib.Core.Bool.{Bool, true, false, not, _||_}
 use native.Mathlib.Omega.{arith}
 use lib.Dec.{eqb}
-use borrow.Author.Tests.{not-true, ltb-true, leb-true, eqb-false}
-use Rattle.ground.proofs.Bools.{and-fst, and-snd, never}
+use borrow.Author.Tests.{ltb-true, leb-true, eqb-false}
+use Rattle.ground.proofs.Bools.{and-fst, and-snd}
 use Rattle.instructions.specs.declared.Var.{Var}
 use Rattle.instructions.specs.declared.Instruction.{Instruction}
 use Rattle.instructions.specs.declared.Instruction.the-variants.{Inc, Pop, Push0, Load, Store, If, Enter, Exit, New, Start, Throw, Return, Nothing}
-use Rattle.instructions.specs.Table.{targetOk, tableOk, endsCode, lastOk, instructionOk}
+use Rattle.instructions.specs.Table.{targetOk, endsCode, lastOk, instructionOk}
 use Rattle.bundle.specs.Program.{Program}
 use Rattle.rows.specs.Rows.{Row}
 use Rattle.rules.specs.Rules.{ruleOf}
@@ -17,11 +17,11 @@ use Rattle.values.specs.Values.{objectOf}
 use Rattle.threads.specs.declared.Thread.{Thread}
 use Rattle.threads.specs.Threads.{varOf}
 use Rattle.state.specs.declared.State.{State}
-use Rattle.state.specs.State.{threadAt, countOf, classOf}
+use Rattle.state.specs.State.{threadAt, countOf}
 use Rattle.machine.specs.Machine.{execOf, runOf}
 use Rattle.soundness.proofs.Kind.{nope}
 use Rattle.soundness.proofs.Accepted.{Address, Accepted}
-use Rattle.soundness.proofs.Invariant.{Live, Inv}
+use Rattle.soundness.proofs.Invariant.{Inv}
 use Rattle.soundness.proofs.Moves.{Good}
 use Rattle.soundness.proofs.Stack.{inc-good, pop-good, push0-good, load-good, store-good, if-good}
 use Rattle.soundness.proofs.Locks.{enter-good, exit-good, leaves-held}

@@ -4,7 +4,7 @@ use mathlib.Core.Path.{_≡_, refl}
 use mathlib.Core.List.{List}
 use mathlib.Core.Bool.{Bool, true, false, cond}
 use native.Mathlib.Omega.{arith}
-use lib.Dec.{eqb, ltb}
+use lib.Dec.{eqb}
 use borrow.Author.Tests.{leb-true, eqb-true, lt-ltb, le-ltb}
 use Rattle.ground.specs.Bytes.{at}
 use Rattle.ground.specs.Chain.{refuse}
@@ -23,7 +23,7 @@ use Rattle.verifier.specs.Verdict.{verdictOf}
 use Rattle.verifier.specs.Places.{form, first, rule}
 use Rattle.verifier.proofs.FirstBroken.{verdict-zero, agrees-back}
 use Rattle.soundness.proofs.Kind.{nope}
-use Rattle.soundness.proofs.Accepted.{Address, Accepted}
+use Rattle.soundness.proofs.Accepted.{Accepted}
 
 -- the rows of a bundle, by class and address
 abbrev pub rowsOf : List ℕ → ℕ → ℕ → Row

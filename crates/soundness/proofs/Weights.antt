@@ -1,10 +1,10 @@
 -- What an entry's pair weighs on an object, and what one slot does in a step that moves no count.
-use mathlib.Core.Path.{_≡_, refl}
+use mathlib.Core.Path.{_≡_}
 use mathlib.Core.Bool.{Bool, true, false, cond}
-use Prim.Native.Nat.{ℕ, _+_, _≤_, _<_}
+use Prim.Native.Nat.{ℕ, _≤_}
 use native.Mathlib.Nat.{le-refl}
 use native.Mathlib.Omega.{arith}
-use lib.Dec.{leb, eqb}
+use lib.Dec.{eqb}
 use borrow.Author.Tests.{leb-true, ne-eqb}
 use Rattle.ground.proofs.Bools.{and-fst, and-snd}
 use Rattle.entries.specs.declared.Entry.{Entry}
