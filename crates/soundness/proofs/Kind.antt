@@ -1,0 +1,129 @@
+-- Which values an entry may stand for: kinds, apart from what an entry weighs. There are n objects, of the classes cls.
+use mathlib.Core.Path.{_≡_, refl, sym, _∙_}
+use mathlib.Core.Bool.{Bool, true, false, cond, false≢true}
+use Prim.Native.Nat.{ℕ, _≤_, _<_}
+use native.Mathlib.Omega.{arith}
+use lib.Dec.{eqb}
+use borrow.Author.Tests.{eqb-true, lt-ltb}
+use Rattle.ground.proofs.Bools.{and-fst}
+use Rattle.entries.specs.declared.Entry.{Entry}
+use Rattle.entries.specs.declared.Entry.the-variants.{Int, Top, Ref, Blank, Malformed}
+use Rattle.entries.specs.Entries.{noEnd, isInt, isType, isOf, argumentEntry, matches}
+use Rattle.entries.specs.Fits.{entryFits, pairFits, goesAs}
+use Rattle.values.specs.declared.Value.{Value}
+use Rattle.values.specs.declared.Value.the-variants.{Int as num, Ref as obj}
+use Rattle.values.specs.Values.{isIntValue, objectOfValue, refersValue, incValue}
+
+-- `Blank` is a place that is not in use: any value may be left there
+abbrev pub Matches : ℕ → (ℕ → ℕ) → Entry → Value → Type 0
+Matches n cls Int (num z) = Unit
+Matches n cls Int (obj r) = ⊥
+Matches n cls Top (num z) = Unit
+Matches n cls Top (obj r) = r < n
+Matches n cls (Ref c d e) (num z) = ⊥
+Matches n cls (Ref c d e) (obj r) = (r < n) × (cls r ≡ c)
+Matches n cls Blank v = Unit
+Matches n cls Malformed v = Unit
+
+pub nope : {A : Type 0} → false ≡ true → A
+nope e = absurd (false≢true e)
+
+module _ (n : ℕ) (cls : ℕ → ℕ) where
+  -- ---- from one entry to another
+  pub fits-kind : (e f : Entry) (v : Value) → entryFits e f ≡ true → Matches n cls e v → Matches n cls f v
+  unfolding pairFits
+  fits-kind Int Int v h m = m
+  fits-kind Int Top (num z) h m = m
+  fits-kind Int Top (obj r) h m = absurd m
+  fits-kind Int (Ref c d e) v h m = nope h
+  fits-kind Int Blank v h m = tt
+  fits-kind Int Malformed v h m = tt
+  fits-kind Top Int v h m = nope h
+  fits-kind Top Top v h m = m
+  fits-kind Top (Ref c d e) v h m = nope h
+  fits-kind Top Blank v h m = tt
+  fits-kind Top Malformed v h m = tt
+  fits-kind (Ref c d e) Int v h m = nope h
+  fits-kind (Ref c d e) Top (num z) h m = absurd m
+  fits-kind (Ref c d e) Top (obj r) h m = m .0
+  fits-kind (Ref c d e) (Ref c′ d′ e′) (num z) h m = absurd m
+  fits-kind (Ref c d e) (Ref c′ d′ e′) (obj r) h m = (m .0, m .1 ∙ eqb-true c c′ (search and-fst))
+  fits-kind (Ref c d e) Blank v h m = tt
+  fits-kind (Ref c d e) Malformed v h m = tt
+  fits-kind Blank f v h m = nope h
+  fits-kind Malformed f v h m = nope h
+
+  -- a reference goes on as Top or as its own class
+  pub goes-kind : (c d e : ℕ) (f : Entry) (v : Value) → goesAs c f ≡ true → Matches n cls (Ref c d e) v → Matches n cls f v
+  goes-kind c d e Int v h m = nope h
+  goes-kind c d e Top (num z) h m = absurd m
+  goes-kind c d e Top (obj r) h m = m .0
+  goes-kind c d e (Ref c′ d′ e′) (num z) h m = absurd m
+  goes-kind c d e (Ref c′ d′ e′) (obj r) h m = (m .0, m .1 ∙ eqb-true c c′ h)
+  goes-kind c d e Blank v h m = tt
+  goes-kind c d e Malformed v h m = tt
+
+  -- more objects
+  pub more-kind : (n′ : ℕ) (cls′ : ℕ → ℕ) → n ≤ n′ → ((r : ℕ) → r < n → cls′ r ≡ cls r) → (e : Entry) (v : Value)
+      → Matches n cls e v → Matches n′ cls′ e v
+  more-kind n′ cls′ l q Int (num z) m = tt
+  more-kind n′ cls′ l q Int (obj r) m = m
+  more-kind n′ cls′ l q Top (num z) m = tt
+  more-kind n′ cls′ l q Top (obj r) m = omega arith
+  more-kind n′ cls′ l q (Ref c d e) (num z) m = m
+  more-kind n′ cls′ l q (Ref c d e) (obj r) m = (omega (arith, m .0), q r (m .0) ∙ m .1)
+  more-kind n′ cls′ l q Blank v m = tt
+  more-kind n′ cls′ l q Malformed v m = tt
+
+  -- ---- what an entry tells of the value
+  pub int-value : (e : Entry) (v : Value) → isInt e ≡ true → Matches n cls e v → isIntValue v ≡ true
+  int-value Int (num z) h m = refl
+  int-value Int (obj r) h m = absurd m
+  int-value Top v h m = nope h
+  int-value (Ref c d e) v h m = nope h
+  int-value Blank v h m = nope h
+  int-value Malformed v h m = nope h
+
+  pub int-inc : (e f : Entry) (v : Value) → isInt e ≡ true → entryFits Int f ≡ true → Matches n cls e v → Matches n cls f (incValue v)
+  int-inc e f (num z) h g m = fits-kind Int f _ g tt
+  int-inc Int f (obj r) h g m = absurd m
+  int-inc Top f (obj r) h g m = nope h
+  int-inc (Ref c d e) f (obj r) h g m = nope h
+  int-inc Blank f (obj r) h g m = nope h
+  int-inc Malformed f (obj r) h g m = nope h
+
+  -- a reference: the value is an object
+  pub ref-value : (c d e : ℕ) (v : Value) → Matches n cls (Ref c d e) v
+      → (isIntValue v ≡ false) × (objectOfValue v < n) × (cls (objectOfValue v) ≡ c) × (v ≡ obj (objectOfValue v))
+  ref-value c d e (num z) m = absurd m
+  ref-value c d e (obj r) m = (refl, m .0, m .1, refl)
+
+  pub of-value : (c : ℕ) (e : Entry) (v : Value) → isOf c e ≡ true → Matches n cls e v → Matches n cls (Ref c 0 noEnd) v
+  of-value c Int v h m = nope h
+  of-value c Top v h m = nope h
+  of-value c (Ref c′ d e) (num z) h m = absurd m
+  of-value c (Ref c′ d e) (obj r) h m = (m .0, m .1 ∙ sym (eqb-true c c′ h))
+  of-value c Blank v h m = nope h
+  of-value c Malformed v h m = nope h
+
+  -- an argument that matches its descriptor is what the started class's row 1 takes it for
+  pub argument-kind : (d : ℕ) (e : Entry) (v : Value) → matches d e ≡ true → Matches n cls e v → Matches n cls (argumentEntry d) v
+  unfolding matches argumentEntry
+  argument-kind d e v h m = go (eqb d 255) h
+    where
+      int : (e : Entry) (v : Value) → isInt e ≡ true → Matches n cls e v → Matches n cls Int v
+      int e (num z) h m = tt
+      int e (obj r) h m = absurd (false≢true (int-value e (obj r) h m))
+
+      go : (b : Bool) → cond b (isInt e) (isOf d e) ≡ true → Matches n cls (cond b Int (Ref d 0 noEnd)) v
+      go true h = int e v h m
+      go false h = of-value d e v h m
+
+  -- a place in use holds an integer or refers to an object
+  pub type-refers : (e : Entry) (v : Value) → isType e ≡ true → Matches n cls e v → refersValue n v ≡ true
+  type-refers e (num z) h m = refl
+  type-refers Int (obj r) h m = absurd m
+  type-refers Top (obj r) h m = lt-ltb r n m
+  type-refers (Ref c d e) (obj r) h m = lt-ltb r n (m .0)
+  type-refers Blank (obj r) h m = nope h
+  type-refers Malformed (obj r) h m = nope h

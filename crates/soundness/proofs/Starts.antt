@@ -1,0 +1,151 @@
+-- start: the starter gives up its arguments and the object, and a thread is born with them.
+use Prim.Native.Nat.{ℕ, _+_, _≤_, _<_}
+use mathlib.Core.Path.{_≡_, _∙_}
+use mathlib.Core.List.{List}
+use mathlib.Core.Bool.{Bool, true, false, cond, _&&_}
+use native.Mathlib.Omega.{arith}
+use native.Mathlib.Decide.{ℕ-discrete}
+use lib.Dec.{eqb}
+use lib.ListN.{getD, replicate, length-replicate}
+use borrow.Author.Tests.{not-true, le-leb, ltb-true, eq-eqb}
+use Rattle.ground.specs.Bounded.{setBelow}
+use Rattle.ground.proofs.Bools.{and-fst, and-snd}
+use Rattle.ground.proofs.Bounded.{all-elim, all-intro, first-is}
+use Rattle.ground.proofs.Writes.{set-length}
+use Rattle.bundle.specs.Program.{Program}
+use Rattle.entries.specs.declared.Entry.{Entry}
+use Rattle.entries.specs.Entries.{noEnd, isInt, isOf, matches}
+use Rattle.entries.specs.Fits.{mayGo}
+use Rattle.rows.specs.Rows.{Row}
+use Rattle.rules.specs.Rules.{argumentGoes, argumentsGo, objectGoes, startRule}
+use Rattle.values.specs.declared.Slot.{Slot}
+use Rattle.values.specs.Values.{zeroSlot}
+use Rattle.values.specs.Values as values
+use Rattle.threads.specs.declared.Thread.{Thread}
+use Rattle.threads.specs.Threads.{entryOf, withAt, popped, started}
+use Rattle.state.specs.declared.State.{State}
+use Rattle.state.specs.State.{threadAt, countOf, classOf, withThread, notLive, lowestFree}
+use Rattle.machine.specs.Instructions.{isObject, isArgument, argumentAt, argumentsOk, startedBy, startStep}
+use Rattle.soundness.proofs.Kind.{Matches, int-value, of-value, ref-value, argument-kind}
+use Rattle.soundness.proofs.Slots.{Rest, rest-all}
+use Rattle.soundness.proofs.Values.{value-argument, value-zero}
+use Rattle.soundness.proofs.Accepted.{Address, Accepted}
+use Rattle.soundness.proofs.Invariant.{Live, Asleep, Inv}
+use Rattle.soundness.proofs.Moves.{others, live-standing, thread-moves, Good, went, passes, either}
+use Rattle.soundness.proofs.Places.{entry-kind, has-entries, pop-live}
+use Rattle.soundness.proofs.Fresh.{born-live}
+
+-- ---- no fault 13
+object-is : (n : ℕ) (classes : List ℕ) (c : ℕ) (e : Entry) (x : Slot) → isOf c e ≡ true → Matches n (λ o. getD classes o 0) e (x .value) → isObject classes c x ≡ true
+object-is n classes c e x h m =
+    let r = ref-value n (λ o. getD classes o 0) c 0 noEnd (x .value) (of-value n (λ o. getD classes o 0) c e (x .value) h m) in
+    rw (r .0, eq-eqb _ _ (r .2))
+
+argument-is : (n : ℕ) (classes : List ℕ) (d : ℕ) (e : Entry) (x : Slot) → matches d e ≡ true → Matches n (λ o. getD classes o 0) e (x .value) → isArgument classes d x ≡ true
+unfolding matches isArgument
+argument-is n classes d e x h m = go (eqb d 255) h
+  where
+    go : (b : Bool) → cond b (isInt e) (isOf d e) ≡ true → cond b (values.isInt x) (isObject classes d x) ≡ true
+    go true h = int-value n (λ o. getD classes o 0) e (x .value) h m
+    go false h = object-is n classes d e x h m
+
+module _ (P : Program) (R : ℕ → ℕ → Row) (A : Accepted P R) (s : State) (inv : Inv P R s) (i : ℕ) (li : i < 8) (lv : threadAt s i .live ≡ true) (c : ℕ) (lc : c < P .classes) where
+  abbrev T : Thread
+  T = threadAt s i
+
+  abbrev vars : ℕ
+  vars = P .method (threadAt s i .class) .vars
+
+  abbrev here : Row
+  here = R (threadAt s i .class) (threadAt s i .at .0)
+
+  abbrev next : Row
+  next = R (threadAt s i .class) (threadAt s i .at .0 + 1)
+
+  abbrev Next : Type 0
+  Next = Address P (threadAt s i .class) (threadAt s i .at .0 + 1)
+
+  abbrev args : ℕ
+  args = P .method c .args
+
+  abbrev descriptor : ℕ → ℕ
+  descriptor = P .method c .descriptor
+
+  abbrev cls : ℕ → ℕ
+  cls = classOf s
+
+  abbrev cnt : ℕ → ℕ
+  cnt = countOf (s .counts) i
+
+  H : Live P R (s .objects) cls cnt T
+  H = inv .thread i li .live lv
+
+  n16 : args ≤ 16
+  n16 = omega (arith, A .formed .args-vars c lc, A .formed .vars-16 c lc)
+
+  module _ (ag : argumentsGo args descriptor here ≡ true) (og : objectGoes c here args ≡ true) (r : Rest vars here next 32 (args + 1) 0) where
+    enough : args + 1 ≤ T .depth
+    enough = has-entries P R A (s .objects) cls cnt T H next 32 (args + 1) 0 r
+
+    argument-goes : (j : ℕ) → j < args → (matches (descriptor j) (here .stack j) && mayGo (here .stack j)) ≡ true
+    unfolding argumentsGo argumentGoes
+    argument-goes j l = all-elim (argumentGoes descriptor here) args ag j l
+
+    kind : (j : ℕ) → j ≤ args → Matches (s .objects) cls (here .stack j) (entryOf T j .value)
+    kind j l = entry-kind P R A (s .objects) cls cnt T H j (omega (arith, enough))
+
+    all-go : (j : ℕ) → j < args + 1 → mayGo (here .stack j) ≡ true
+    unfolding objectGoes
+    all-go j l = go (ℕ-discrete j args)
+      where
+        go : Dec (j ≡ args) → mayGo (here .stack j) ≡ true
+        go (yes q) = rw q (and-snd (isOf c (here .stack args)) (mayGo (here .stack args)) og)
+        go (no q) = and-snd (matches (descriptor j) (here .stack j)) (mayGo (here .stack j)) (argument-goes j (omega arith))
+
+    arguments-ok : argumentsOk (s .classes) T args descriptor c ≡ true
+    unfolding argumentsOk objectGoes
+    arguments-ok =
+        rw (all-intro (argumentAt (s .classes) T descriptor) args
+        (λ j l. argument-is (s .objects) (s .classes) (descriptor j) (here .stack j) (entryOf T j)
+        (and-fst (matches (descriptor j) (here .stack j)) (mayGo (here .stack j)) (argument-goes j l)) (kind j (omega arith))))
+        (object-is (s .objects) (s .classes) c (here .stack args) (entryOf T args) (and-fst (isOf c (here .stack args)) (mayGo (here .stack args)) og) (kind args (omega arith)))
+
+    -- the new thread
+    started-live : (j : ℕ) → Asleep (countOf (s .counts) j) (threadAt s j)
+        → Live P R (s .objects) cls (countOf (s .counts) j) (started (threadAt s j) T c args)
+    unfolding started
+    started-live j a =
+        born-live P R A (s .objects) cls (countOf (s .counts) j) c lc (setBelow args (entryOf T) (replicate 16 zeroSlot)) (threadAt s j .stack)
+        (set-length (entryOf T) (replicate 16 zeroSlot) args ∙ length-replicate 16 zeroSlot) (a .sized .stack) (a .free)
+        (λ p l. rw (value-argument args p (entryOf T) (threadAt s j .stack) l n16)
+        (argument-kind (s .objects) cls (descriptor p) (here .stack p) (entryOf T p .value)
+        (and-fst (matches (descriptor p) (here .stack p)) (mayGo (here .stack p)) (argument-goes p l)) (kind p (omega arith))))
+        (λ p l b. value-zero args p (entryOf T) (threadAt s j .stack) l b)
+
+    -- the starter goes on
+    starts : Next → (j : ℕ) → j < 8 → threadAt s j .live ≡ false → Good P R s i (startedBy s i T args c j)
+    unfolding startedBy
+    starts ad j lj d =
+        let u : Thread = started (threadAt s j) T c args in
+        let one : Inv P R (withThread s j u) =
+        thread-moves P R s j lj (others P R s inv j) u
+        (live-standing P R (s .objects) cls (countOf (s .counts) j) u (started-live j (inv .thread j lj .asleep d))) in
+        went P R s i _
+        (thread-moves P R (withThread s j u) i li (others P R (withThread s j u) one i) _
+        (live-standing P R (s .objects) cls cnt (withAt (popped (args + 1) T) (T .at .0 + 1))
+        (pop-live P R A (s .objects) cls cnt T H (args + 1) (T .at .0 + 1) ad r all-go)))
+
+  free-is : lowestFree s < 8 → threadAt s (lowestFree s) .live ≡ false
+  unfolding lowestFree
+  free-is l = not-true _ (first-is 8 (notLive s) l)
+
+  pub start-good : Next → startRule vars args descriptor c here next ≡ true → Good P R s i (startStep s i T args descriptor c)
+  unfolding startRule startStep
+  start-good ad e =
+      let ag : argumentsGo args descriptor here ≡ true = search (and-fst, and-snd) in
+      let og : objectGoes c here args ≡ true = search (and-fst, and-snd) in
+      let r : Rest vars here next 32 (args + 1) 0 = rest-all vars (args + 1) 0 here next (search (and-fst, and-snd)) in
+      passes P R s i _ 11 _ (le-leb (args + 1) (T .depth) (enough ag og r))
+      (passes P R s i _ 13 _ (arguments-ok ag og r)
+      (either P R s i _ 4 _ (omega arith) (omega arith) inv
+      (λ f. let l : lowestFree s < 8 = ltb-true (lowestFree s) 8 f in starts ag og r ad (lowestFree s) l (free-is l))))

@@ -1,0 +1,103 @@
+-- Verdict 0 gives what soundness asks of a program and its rows.
+use Prim.Native.Nat.{ℕ, _≤_, _<_}
+use mathlib.Core.Path.{_≡_, refl}
+use mathlib.Core.List.{List}
+use mathlib.Core.Bool.{Bool, true, false, cond}
+use native.Mathlib.Omega.{arith}
+use lib.Dec.{eqb}
+use borrow.Author.Tests.{leb-true, eqb-true, lt-ltb, le-ltb}
+use Rattle.ground.specs.Bytes.{at}
+use Rattle.ground.specs.Chain.{refuse}
+use Rattle.ground.proofs.Bools.{and-fst, and-snd}
+use Rattle.ground.proofs.Bounded.{all-elim}
+use Rattle.bundle.specs.Container.{classes, classAt, partOf}
+use Rattle.bundle.specs.Program.{methodOf, methodAt, programOf}
+use Rattle.structure.proofs.Structured.{WellFormed, well-formed}
+use Rattle.entries.specs.declared.Entry.{Entry}
+use Rattle.entries.specs.declared.Entry.the-variants.{Int, Top, Ref, Blank, Malformed}
+use Rattle.entries.specs.Entries.{minEnd, zeros, pairOk, entryOf, endOf, isTop, isType, argumentEntry}
+use Rattle.entries.specs.Fits.{entryFits}
+use Rattle.rows.specs.Rows.{Row, entryAt, variableAt, stackAt, rowAt}
+use Rattle.forms.specs.Forms.{varFormed, entryFormed, varsFormed, stackFormed, rowFormed, firstVar, firstVars, firstRow}
+use Rattle.verifier.specs.Verdict.{verdictOf}
+use Rattle.verifier.specs.Places.{form, first, rule}
+use Rattle.verifier.proofs.FirstBroken.{verdict-zero, agrees-back}
+use Rattle.soundness.proofs.Kind.{nope}
+use Rattle.soundness.proofs.Accepted.{Accepted}
+
+-- the rows of a bundle, by class and address
+abbrev pub rowsOf : List ℕ → ℕ → ℕ → Row
+rowsOf b c l = rowAt (classes b) (classAt b c) (partOf b (classAt b c)) l
+
+-- ---- an entry's end, as it is stored, is at least 1
+low : (n c d e : ℕ) → pairOk n c d e ≡ true → 1 ≤ e
+unfolding pairOk
+low n c d e h = leb-true minEnd e (search (and-fst, and-snd))
+
+entry-end : (n kind c d e : ℕ) → 1 ≤ endOf (entryOf n kind c d e)
+unfolding entryOf refuse
+entry-end n kind c d e =
+    either (eqb kind 0) _ _ (either (zeros c d e) Blank Malformed (omega arith) (omega arith))
+    (either (eqb kind 1) _ _ (either (zeros c d e) Int Malformed (omega arith) (omega arith))
+    (either (eqb kind 2) _ _ (either (zeros c d e) Top Malformed (omega arith) (omega arith))
+    (either (eqb kind 3) _ _ (pair (pairOk n c d e) (λ h. low n c d e h)) (omega arith))))
+  where
+    either : (b : Bool) (x y : Entry) → 1 ≤ endOf x → 1 ≤ endOf y → 1 ≤ endOf (cond b x y)
+    either true x y p q = p
+    either false x y p q = q
+
+    pair : (b : Bool) → (b ≡ true → 1 ≤ e) → 1 ≤ endOf (cond b (Ref c d e) Malformed)
+    pair true p = p refl
+    pair false p = omega arith
+
+is-top : (e : Entry) → isTop e ≡ true → e ≡ Top
+is-top Int h = nope h
+is-top Top h = refl
+is-top (Ref c d e) h = nope h
+is-top Blank h = nope h
+is-top Malformed h = nope h
+
+-- ---- what a well-formed row and a first row are
+module _ (vars limit : ℕ) (x : Row) (h : rowFormed vars limit x ≡ true) where
+  formed-depth : x .depth ≤ limit
+  unfolding rowFormed
+  formed-depth = leb-true _ _ (search (and-fst, and-snd))
+
+  formed-variable : (i : ℕ) → i < vars → isType (x .variable i) ≡ true
+  unfolding rowFormed varsFormed
+  formed-variable = all-elim (varFormed x) vars (search (and-fst, and-snd))
+
+  formed-stack : (j : ℕ) → j < x .depth → isType (x .stack j) ≡ true
+  unfolding rowFormed stackFormed entryFormed
+  formed-stack j l = rw (lt-ltb j (x .depth) l) at (all-elim (entryFormed x) limit (search (and-fst, and-snd)) j (omega (arith, formed-depth)))
+
+module _ (vars args : ℕ) (descriptor : ℕ → ℕ) (x : Row) (h : firstRow vars args descriptor x ≡ true) where
+  first-depth : x .depth ≡ 0
+  unfolding firstRow
+  first-depth = eqb-true _ _ (search and-fst)
+
+  first-argument : (i : ℕ) → i < args → i < vars → entryFits (argumentEntry (descriptor i)) (x .variable i) ≡ true
+  unfolding firstRow firstVars firstVar
+  first-argument i a l = rw (lt-ltb i args a) at (all-elim (firstVar args descriptor x) vars (search (and-fst, and-snd)) i l)
+
+  first-other : (i : ℕ) → args ≤ i → i < vars → x .variable i ≡ Top
+  unfolding firstRow firstVars firstVar
+  first-other i a l = is-top (x .variable i) (rw (le-ltb i args a) at (all-elim (firstVar args descriptor x) vars (search (and-fst, and-snd)) i l))
+
+-- THEOREM: a bundle with verdict 0 is accepted
+pub accepted : (b : List ℕ) → verdictOf b .number ≡ 0 → Accepted (programOf b) (rowsOf b)
+unfolding programOf methodAt methodOf variableAt stackAt entryAt
+accepted b e =
+    let w : WellFormed (programOf b) = well-formed b (agrees-back b e) in
+    record {
+      formed = w;
+      depth-limit = λ c l a. formed-depth _ _ (rowsOf b c l) (verdict-zero b e (form c l) (a .class-known, a .first, a .last));
+      variable-type = λ c l i a. formed-variable _ _ (rowsOf b c l) (verdict-zero b e (form c l) (a .class-known, a .first, a .last)) i;
+      stack-type = λ c l j a. formed-stack _ _ (rowsOf b c l) (verdict-zero b e (form c l) (a .class-known, a .first, a .last)) j;
+      variable-end = λ c l i. entry-end _ _ _ _ _;
+      stack-end = λ c l j. entry-end _ _ _ _ _;
+      first-depth = λ c l. first-depth _ _ _ (rowsOf b c 1) (verdict-zero b e (first c) l);
+      first-argument = λ c i l a. first-argument _ _ _ (rowsOf b c 1) (verdict-zero b e (first c) l) i a (omega (arith, w .args-vars c l));
+      first-other = λ c i l a. first-other _ _ _ (rowsOf b c 1) (verdict-zero b e (first c) l) i a;
+      rule = λ c l a. verdict-zero b e (rule c l) (a .class-known, a .first, a .last);
+    }

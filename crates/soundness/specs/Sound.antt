@@ -1,0 +1,59 @@
+-- Demand 3: what holds for an accepted bundle, a fresh machine and any list of steps, each a thread and whether an allocation fails.
+use mathlib.Core.List.{List, [], _∷_}
+use mathlib.Core.Path.{_≡_}
+use mathlib.Core.Logic.{_⊎_, _≢_}
+use mathlib.Core.Bool.{Bool, true, false}
+use Prim.Native.Nat.{ℕ, _<_, _≤_}
+use Rattle.instructions.specs.declared.Instruction.the-variants.{Exit}
+use Rattle.instructions.specs.declared.Var.{Var}
+use Rattle.instructions.specs.declared.Instruction.{Instruction}
+use Rattle.bundle.specs.Program.{programOf}
+use Rattle.values.specs.Values.{objectOf}
+use Rattle.threads.specs.Threads.{varOf}
+use Rattle.state.specs.declared.State.{State}
+use Rattle.state.specs.State.{threadAt, countOf}
+use Rattle.machine.specs.Machine.{freshOf, stepOf}
+
+-- one step of a schedule
+pub record Step : Type 0 where
+  pub who : ℕ
+  pub fails : Bool
+
+abbrev pub answer : List ℕ → State → Step → ℕ
+answer b s x = stepOf b s (x .who) (x .fails) .answer
+
+abbrev pub after : List ℕ → State → Step → State
+after b s x = stepOf b s (x .who) (x .fails) .state
+
+-- a list of steps, one after another
+unfoldable pub run : List ℕ → State → List Step → State
+run b s [] = s
+run b s (x ∷ xs) = run b (after b s x) xs
+
+-- from the fresh machine of b
+abbrev pub reached : List ℕ → List Step → State
+reached b xs = run b (freshOf b .state) xs
+
+-- thread t's count of object o
+abbrev pub holds : State → ℕ → ℕ → ℕ
+holds s t o = countOf (s .counts) t o
+
+-- the next instruction of thread t
+abbrev pub next : List ℕ → State → ℕ → Instruction
+next b s t = programOf b .method (threadAt s t .class) .instruction (threadAt s t .at .0)
+
+-- one clause of the demand a field, of a state s and one more step x
+pub record Sound (b : List ℕ) (s : State) (x : Step) : Type 0 where
+  -- no step is a fault, nor 17 or 18
+  pub no-fault : answer b s x ≤ 5
+  -- no thread leaves a lock it does not hold
+  pub leaves-held : (t : ℕ) (v : Var) → t < 8 → threadAt s t .live ≡ true → next b s t ≡ Exit v
+      → 0 < holds s t (objectOf (varOf (threadAt s t) (v .0)))
+  -- a thread that ends, by return or uncaught exception, held nothing and holds nothing then
+  pub ends-free : (answer b s x ≡ 1) ⊎ (answer b s x ≡ 2) → (o : ℕ) → o < 32 → (holds s (x .who) o ≡ 0) × (holds (after b s x) (x .who) o ≡ 0)
+  -- a thread that isn't live holds nothing
+  pub idle-free : (t o : ℕ) → t < 8 → o < 32 → threadAt s t .live ≡ false → holds s t o ≡ 0
+  -- no object is held by two threads
+  pub one-holder : (t u o : ℕ) → t < 8 → u < 8 → o < 32 → t ≢ u → 0 < holds s t o → holds s u o ≡ 0
+  -- no count passes 2,016
+  pub bounded : (t o : ℕ) → t < 8 → o < 32 → holds s t o ≤ 2016
