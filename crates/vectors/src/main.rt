@@ -1,0 +1,15 @@
+// Bundles with the answers that document 01 gives them, worked out by hand, against the answers of the code.
+mod build;
+mod bundles;
+mod container;
+mod parts;
+mod report;
+
+use report::Tally;
+
+fn main() {
+    let mut b = io::large_buffer();
+    let t = Tally { cases: 0, wrong: 0 };
+    let t = container::cases(t, &mut b);
+    report::total(t);
+}
