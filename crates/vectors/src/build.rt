@@ -1,23 +1,23 @@
 // Writes a bundle part by part: each function puts its bytes at a place of the lent buffer and gives back the place after them.
-// Nothing is written past the buffer's end.
+// Nothing is written past the buffer's end; of a number that is to be a byte, its low byte is.
 use crate::parts::Buffer;
 use crate::parts::Code;
 use crate::parts::Entry;
 
-pub(crate) fn byte(b: &mut Buffer, at: usize, x: u8) -> usize {
+pub(crate) fn byte(b: &mut Buffer, at: usize, x: u16) -> usize {
     if at < 65536 {
-        b[at] = x;
+        b[at] = (x % 256) as u8;
         return at + 1;
     }
     at
 }
 
 pub(crate) fn word(b: &mut Buffer, at: usize, x: u16) -> usize {
-    let p = byte(b, at, (x / 256) as u8);
-    byte(b, p, (x % 256) as u8)
+    let p = byte(b, at, x / 256);
+    byte(b, p, x % 256)
 }
 
-pub(crate) fn bytes(b: &mut Buffer, at: usize, x: u8, n: usize) -> usize {
+pub(crate) fn bytes(b: &mut Buffer, at: usize, x: u16, n: usize) -> usize {
     let mut p = at;
     for _ in 0..n {
         p = byte(b, p, x);
@@ -40,13 +40,13 @@ pub(crate) fn codes(b: &mut Buffer, at: usize, c: Code, n: usize) -> usize {
 }
 
 // V variable entries, the depth and K stack entries, all of them zeros.
-fn blank_row(b: &mut Buffer, at: usize, vars: u8, limit: u8) -> usize {
+fn blank_row(b: &mut Buffer, at: usize, vars: u16, limit: u16) -> usize {
     let p = bytes(b, at, 0, 4 * (vars as usize));
     let p = byte(b, p, 0);
     bytes(b, p, 0, 4 * (limit as usize))
 }
 
-pub(crate) fn blank_rows(b: &mut Buffer, at: usize, vars: u8, limit: u8, n: usize) -> usize {
+pub(crate) fn blank_rows(b: &mut Buffer, at: usize, vars: u16, limit: u16, n: usize) -> usize {
     let mut p = at;
     for _ in 0..n {
         p = blank_row(b, p, vars, limit);
@@ -76,7 +76,7 @@ pub(crate) fn trailer(
     b: &mut Buffer,
     at: usize,
     directory: u16,
-    classes: u8,
+    classes: u16,
     length: u16,
 ) -> usize {
     let p = word(b, at, directory);

@@ -15,9 +15,58 @@ use crate::parts::PUSH0;
 use crate::parts::RETURN;
 use crate::parts::STORE;
 
+const ONE: u16 = 13;
+
+const PAIR: u16 = 14;
+
+const TRIO: u16 = 15;
+
+const ROOMY: u16 = 16;
+
+const LONE: u16 = 17;
+
+const FRONT: u16 = 18;
+
+const LARGEST: u16 = 19;
+
+const LONGEST: u16 = 20;
+
+const OWN_ENTRY: u16 = 21;
+
+const WITHIN_ROW: u16 = 22;
+
+const CASE_A: u16 = 23;
+
+const TWO: u16 = 24;
+
+const EIGHT: u16 = 25;
+
+const NINE: u16 = 26;
+
+// Puts one of these bundles at the start of the buffer and gives back its length.
+pub(crate) fn bundle(b: &mut Buffer, which: u16) -> usize {
+    match which {
+        ONE => one(b),
+        PAIR => pair(b),
+        TRIO => trio(b),
+        ROOMY => roomy(b),
+        LONE => lone(b),
+        FRONT => front(b),
+        LARGEST => largest(b),
+        LONGEST => longest(b),
+        OWN_ENTRY => own_entry(b),
+        WITHIN_ROW => within_row(b),
+        CASE_A => case_a(b),
+        TWO => shared(b, 2, 29),
+        EIGHT => shared(b, 8, 77),
+        NINE => shared(b, 9, 85),
+        _ => 0,
+    }
+}
+
 // One class (n 0, V 1, K 0, k 1): 4 bytes of code and a row of 5, 9 bytes at 0.
 // Directory at 9; trailer at 17: directory offset at 17, class count at 19, spare at 20, length at 21, 4C at 23, 4B at 24; length 25.
-pub(crate) fn one(b: &mut Buffer) -> usize {
+fn one(b: &mut Buffer) -> usize {
     let p = build::code(b, 0, Code(RETURN, 0, 0));
     let p = build::blank_rows(b, p, 1, 0, 1);
     let p = build::entry(b, p, Entry(0, 0, 1, 0, 0, 1));
@@ -25,9 +74,9 @@ pub(crate) fn one(b: &mut Buffer) -> usize {
 }
 
 // Two classes. Class 0 (n 0, V 2, K 1, k 3): 12 bytes of code and 3 rows of 13, 51 bytes at 0.
-// Class 1 (n 1, V 3, K 0, k 4): a descriptor, 16 bytes of code and 4 rows of 13, 69 bytes at 51.
-// Directory at 120: class 0's entry at 120, class 1's at 128; trailer at 136; length 144.
-pub(crate) fn pair(b: &mut Buffer) -> usize {
+// Class 1 (n 1, V 3, K 0, k 4): a descriptor, 16 bytes of code at 52 and 4 rows of 13, 69 bytes at 51.
+// Directory at 120: class 0's entry at 120, class 1's at 128; trailer at 136, class count at 138; length 144.
+fn pair(b: &mut Buffer) -> usize {
     let p = build::code(b, 0, Code(PUSH0, 0, 0));
     let p = build::code(b, p, Code(POP, 0, 0));
     let p = build::code(b, p, Code(RETURN, 0, 0));
@@ -43,20 +92,24 @@ pub(crate) fn pair(b: &mut Buffer) -> usize {
     build::trailer(b, p, 120, 2, 144)
 }
 
+// V 0, K 0, k 1: 4 bytes of code and a row of 1, 5 bytes.
+fn smallest(b: &mut Buffer, at: usize) -> usize {
+    let p = build::code(b, at, Code(RETURN, 0, 0));
+    build::blank_rows(b, p, 0, 0, 1)
+}
+
 // Two arguments, V 2, K 0, k 1: 2 descriptors, 4 bytes of code and a row of 9, 15 bytes.
 fn two_arguments(b: &mut Buffer, at: usize) -> usize {
-    let p = build::byte(b, at, INT);
-    let p = build::byte(b, p, INT);
+    let p = build::bytes(b, at, INT, 2);
     let p = build::code(b, p, Code(RETURN, 0, 0));
     build::blank_rows(b, p, 2, 0, 1)
 }
 
-// Three classes. Class 0 (n 0, V 0, K 0, k 1): 4 bytes of code and a row of 1, 5 bytes at 0.
-// Class 1 (n 2, V 2, K 0, k 1): 15 bytes at 5, descriptors at 5 and 6, code at 7. Class 2 the same: 15 bytes at 20, descriptors at 20 and 21,
-// code at 22. Directory at 35: class 0's entry at 35, class 1's at 43, class 2's at 51; trailer at 59; length 67.
-pub(crate) fn trio(b: &mut Buffer) -> usize {
-    let p = build::code(b, 0, Code(RETURN, 0, 0));
-    let p = build::blank_rows(b, p, 0, 0, 1);
+// Three classes. Class 0 (n 0, V 0, K 0, k 1): 5 bytes at 0. Class 1 (n 2, V 2, K 0, k 1): 15 bytes at 5, descriptors at 5 and 6,
+// code at 7. Class 2 the same: 15 bytes at 20, descriptors at 20 and 21, code at 22.
+// Directory at 35: class 0's entry at 35, class 1's at 43, class 2's at 51; trailer at 59; length 67.
+fn trio(b: &mut Buffer) -> usize {
+    let p = smallest(b, 0);
     let p = two_arguments(b, p);
     let p = two_arguments(b, p);
     let p = build::entry(b, p, Entry(0, 0, 0, 0, 0, 1));
@@ -66,31 +119,29 @@ pub(crate) fn trio(b: &mut Buffer) -> usize {
 }
 
 // Two classes whose records fit at every limit that a case tries, and at the number after it: 17 descriptors FF at 0, so that a record of
-// n arguments begins at 17 - n; 257 times return at 17; zeros from 1,045. Directory at 1,400; trailer at 1,416; length 1,424.
-pub(crate) fn roomy(b: &mut Buffer, first: Entry, second: Entry) -> usize {
+// n arguments begins at 17 - n; 257 times return at 17, address l at 13 + 4l; zeros from 1,045.
+// Directory at 1,400: class 0's entry at 1,400, class 1's at 1,408; trailer at 1,416; length 1,424.
+fn roomy(b: &mut Buffer) -> usize {
     let p = build::bytes(b, 0, INT, 17);
     let p = build::codes(b, p, Code(RETURN, 0, 0), 257);
     let p = build::bytes(b, p, 0, 355);
-    let p = build::entry(b, p, first);
-    let p = build::entry(b, p, second);
+    let p = build::entries(b, p, Entry(17, 0, 0, 0, 0, 1), 2);
     build::trailer(b, p, 1400, 2, 1424)
 }
 
-// The directory first, at 0; then one record (V 0, K 0, k 1) of 5 bytes at 8, up to the trailer at 13; length 21. Its entry: 8, 0, 0, 0, 0, 1.
-pub(crate) fn lone(b: &mut Buffer, first: Entry) -> usize {
-    let p = build::entry(b, 0, first);
-    let p = build::code(b, p, Code(RETURN, 0, 0));
-    let p = build::blank_rows(b, p, 0, 0, 1);
+// The directory first, at 0; then one record (V 0, K 0, k 1) of 5 bytes at 8, up to the trailer at 13; length 21.
+fn lone(b: &mut Buffer) -> usize {
+    let p = build::entry(b, 0, Entry(8, 0, 0, 0, 0, 1));
+    let p = smallest(b, p);
     build::trailer(b, p, 0, 1, 21)
 }
 
-// The directory first, at 0; class 0 (V 0, K 0, k 1): 5 bytes at 16; class 1 (n 1, V 1, K 1, k 2): a descriptor, 8 bytes of code and
-// 2 rows of 9, 27 bytes at 21, up to the trailer at 48; length 56. Their entries: 16, 0, 0, 0, 0, 1 and 21, 1, 1, 1, 0, 2.
-pub(crate) fn front(b: &mut Buffer, first: Entry, second: Entry) -> usize {
-    let p = build::entry(b, 0, first);
-    let p = build::entry(b, p, second);
-    let p = build::code(b, p, Code(RETURN, 0, 0));
-    let p = build::blank_rows(b, p, 0, 0, 1);
+// The directory first: class 0's entry at 0, class 1's at 8. Class 0 (V 0, K 0, k 1): 5 bytes at 16. Class 1 (n 1, V 1, K 1, k 2):
+// a descriptor, 8 bytes of code and 2 rows of 9, 27 bytes at 21, up to the trailer at 48; length 56.
+fn front(b: &mut Buffer) -> usize {
+    let p = build::entry(b, 0, Entry(16, 0, 0, 0, 0, 1));
+    let p = build::entry(b, p, Entry(21, 1, 1, 1, 0, 2));
+    let p = smallest(b, p);
     let p = build::byte(b, p, INT);
     let p = build::code(b, p, Code(POP, 0, 0));
     let p = build::code(b, p, Code(RETURN, 0, 0));
@@ -99,35 +150,17 @@ pub(crate) fn front(b: &mut Buffer, first: Entry, second: Entry) -> usize {
 }
 
 // Some classes that share one record (V 0, K 0, k 1) of 5 bytes at 0. Directory at 5, class c's entry at 5 + 8c; trailer after it.
-// Two classes: length 29. Eight: class 7's entry at 61, trailer at 69, length 77. Nine: length 85.
-pub(crate) fn shared(b: &mut Buffer, classes: u8, length: u16) -> usize {
-    let p = build::code(b, 0, Code(RETURN, 0, 0));
-    let p = build::blank_rows(b, p, 0, 0, 1);
+// Two classes: class 1's entry at 13. Eight: class 7's entry at 61, trailer at 69. Nine: trailer at 77, class count at 79.
+fn shared(b: &mut Buffer, classes: u16, length: u16) -> usize {
+    let p = smallest(b, 0);
     let p = build::entries(b, p, Entry(0, 0, 0, 0, 0, 1), classes as usize);
     build::trailer(b, p, 5, classes, length)
 }
 
-// Case A of document 01, with the target of its `if`: 36 bytes of code and 9 rows of 9, 117 bytes at 0; directory at 117; length 133.
-pub(crate) fn document_a(b: &mut Buffer, target: u16) -> usize {
-    let p = build::code(b, 0, Code(NEW, 0, 0));
-    let p = build::code(b, p, Code(STORE, 0, 0));
-    let p = build::code(b, p, Code(ENTER, 0, 0));
-    let p = build::code(b, p, Code(PUSH0, 0, 0));
-    let p = build::code(b, p, Code(IF, 0, target));
-    let p = build::code(b, p, Code(EXIT, 0, 0));
-    let p = build::code(b, p, Code(RETURN, 0, 0));
-    let p = build::code(b, p, Code(EXIT, 0, 0));
-    let p = build::code(b, p, Code(RETURN, 0, 0));
-    let p = build::blank_rows(b, p, 1, 1, 9);
-    let p = build::entry(b, p, Entry(0, 0, 1, 1, 0, 9));
-    build::trailer(b, p, 117, 1, 133)
-}
-
 // The largest record. Class 0 (V 0, K 0, k 1): 5 bytes at 0. Class 1 (n 16, V 16, K 16, k 256): 16 descriptors, 1,024 bytes of code and
-// 256 rows of 129, 34,064 bytes at 5. Directory at 34,069; trailer at 34,085; length 34,093.
-pub(crate) fn largest(b: &mut Buffer) -> usize {
-    let p = build::code(b, 0, Code(RETURN, 0, 0));
-    let p = build::blank_rows(b, p, 0, 0, 1);
+// 256 rows of 129, 34,064 bytes at 5. Directory at 34,069: class 1's entry at 34,077; trailer at 34,085; length 34,093.
+fn largest(b: &mut Buffer) -> usize {
+    let p = smallest(b, 0);
     let p = build::bytes(b, p, INT, 16);
     let p = build::codes(b, p, Code(RETURN, 0, 0), 256);
     let p = build::blank_rows(b, p, 16, 16, 256);
@@ -137,19 +170,17 @@ pub(crate) fn largest(b: &mut Buffer) -> usize {
 }
 
 // The directory first, at 0; zeros; one record (V 0, K 0, k 1) of 5 bytes at 65,522, up to the trailer at 65,527; length 65,535.
-pub(crate) fn longest(b: &mut Buffer, first: Entry) -> usize {
-    let p = build::entry(b, 0, first);
+fn longest(b: &mut Buffer) -> usize {
+    let p = build::entry(b, 0, Entry(65522, 0, 0, 0, 0, 1));
     let p = build::bytes(b, p, 0, 65514);
-    let p = build::code(b, p, Code(RETURN, 0, 0));
-    let p = build::blank_rows(b, p, 0, 0, 1);
+    let p = smallest(b, p);
     build::trailer(b, p, 0, 1, 65535)
 }
 
 // Class 0 (V 0, K 0, k 1): 5 bytes at 0. Directory at 5, class 1's entry at 13. Class 1 (n 3, V 3, K 0, k 1): 20 bytes at 18, so that its
 // descriptors are the last three bytes of its own entry: the zero and k, 0, 0, 1; code at 21; a row of 13. Trailer at 38; length 46.
-pub(crate) fn own_entry(b: &mut Buffer) -> usize {
-    let p = build::code(b, 0, Code(RETURN, 0, 0));
-    let p = build::blank_rows(b, p, 0, 0, 1);
+fn own_entry(b: &mut Buffer) -> usize {
+    let p = smallest(b, 0);
     let p = build::entry(b, p, Entry(0, 0, 0, 0, 0, 1));
     let p = build::entry(b, p, Entry(18, 3, 3, 0, 0, 1));
     let p = build::code(b, p, Code(RETURN, 0, 0));
@@ -158,9 +189,25 @@ pub(crate) fn own_entry(b: &mut Buffer) -> usize {
 }
 
 // One class (V 4, K 0, k 1): 4 bytes of code and a row of 17, 21 bytes at 0. Directory at 5, inside the row; trailer at 21; length 29.
-pub(crate) fn within_row(b: &mut Buffer) -> usize {
+fn within_row(b: &mut Buffer) -> usize {
     let p = build::code(b, 0, Code(RETURN, 0, 0));
     let p = build::blank_rows(b, p, 4, 0, 1);
     build::entry(b, 5, Entry(0, 0, 4, 0, 0, 1));
     build::trailer(b, p, 5, 1, 29)
+}
+
+// Case A of document 01: 36 bytes of code, its `if` at 16, and 9 rows of 9, 117 bytes at 0; directory at 117; length 133.
+fn case_a(b: &mut Buffer) -> usize {
+    let p = build::code(b, 0, Code(NEW, 0, 0));
+    let p = build::code(b, p, Code(STORE, 0, 0));
+    let p = build::code(b, p, Code(ENTER, 0, 0));
+    let p = build::code(b, p, Code(PUSH0, 0, 0));
+    let p = build::code(b, p, Code(IF, 0, 8));
+    let p = build::code(b, p, Code(EXIT, 0, 0));
+    let p = build::code(b, p, Code(RETURN, 0, 0));
+    let p = build::code(b, p, Code(EXIT, 0, 0));
+    let p = build::code(b, p, Code(RETURN, 0, 0));
+    let p = build::blank_rows(b, p, 1, 1, 9);
+    let p = build::entry(b, p, Entry(0, 0, 1, 1, 0, 9));
+    build::trailer(b, p, 117, 1, 133)
 }

@@ -7,7 +7,9 @@ mod order;
 mod parts;
 mod records;
 mod report;
+mod script;
 mod table;
+mod words;
 
 use report::Tally;
 

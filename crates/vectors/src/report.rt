@@ -1,4 +1,4 @@
-// Runs one case, says on a line of its own whether the answer is the one wanted, and counts.
+// Compares one answer with the one wanted, says so on a line of its own, and counts.
 use crate::parts::Buffer;
 use libc::STDOUT_FILENO;
 use structure::Verdict;
@@ -10,55 +10,38 @@ pub(crate) struct Tally {
 }
 
 // The verdict wanted: number, class, address.
-pub(crate) struct Want(pub u8, pub u8, pub u16);
+pub(crate) struct Want(pub u16, pub u16, pub u16);
 
 // The record wanted: its length and its first byte, 0 where it is empty.
-pub(crate) struct Part(pub usize, pub u8);
+pub(crate) struct Part(pub u16, pub u16);
+
+fn text(s: &[u8]) {
+    io::write_all(STDOUT_FILENO, s);
+}
+
+fn number(n: u16) {
+    text(b" ");
+    io::print_decimal(STDOUT_FILENO, n as u64);
+}
 
 fn right(t: Tally, name: &[u8]) -> Tally {
-    io::write_all(STDOUT_FILENO, b"ok ");
-    io::write_all(STDOUT_FILENO, name);
-    io::write_all(STDOUT_FILENO, b"\n");
+    text(b"ok ");
+    text(name);
+    text(b"\n");
     Tally {
         cases: std::num::wrapping_add_u64(t.cases, 1),
         wrong: t.wrong,
     }
 }
 
+// The head of a line, which its caller ends.
 fn wrong(t: Tally, name: &[u8]) -> Tally {
-    io::write_all(STDOUT_FILENO, b"WRONG ");
-    io::write_all(STDOUT_FILENO, name);
+    text(b"WRONG ");
+    text(name);
     Tally {
         cases: std::num::wrapping_add_u64(t.cases, 1),
         wrong: std::num::wrapping_add_u64(t.wrong, 1),
     }
-}
-
-fn number(n: u64) {
-    io::write_all(STDOUT_FILENO, b" ");
-    io::print_decimal(STDOUT_FILENO, n);
-}
-
-fn same_verdict(got: Verdict, want: Want) -> bool {
-    if got.number != want.0 {
-        return false;
-    }
-    if got.class != want.1 {
-        return false;
-    }
-    got.address == want.2
-}
-
-fn differ(got: Verdict, want: Want) {
-    io::write_all(STDOUT_FILENO, b" got");
-    number(got.number as u64);
-    number(got.class as u64);
-    number(got.address as u64);
-    io::write_all(STDOUT_FILENO, b" wanted");
-    number(want.0 as u64);
-    number(want.1 as u64);
-    number(want.2 as u64);
-    io::write_all(STDOUT_FILENO, b"\n");
 }
 
 // The first n bytes, or all of them where there are fewer.
@@ -69,6 +52,28 @@ fn first<'a>(b: &'a [u8], n: usize) -> &'a [u8] {
     b
 }
 
+fn same_verdict(got: Verdict, want: Want) -> bool {
+    if got.number as u16 != want.0 {
+        return false;
+    }
+    if got.class as u16 != want.1 {
+        return false;
+    }
+    got.address == want.2
+}
+
+fn other_verdict(got: Verdict, want: Want) {
+    text(b" got");
+    number(got.number as u16);
+    number(got.class as u16);
+    number(got.address);
+    text(b" wanted");
+    number(want.0);
+    number(want.1);
+    number(want.2);
+    text(b"\n");
+}
+
 // The verdict on the bundle that the buffer's first n bytes are.
 pub(crate) fn verdict(t: Tally, b: &Buffer, n: usize, name: &[u8], want: Want) -> Tally {
     let got = structure::structure(first(b, n));
@@ -76,41 +81,60 @@ pub(crate) fn verdict(t: Tally, b: &Buffer, n: usize, name: &[u8], want: Want) -
         return right(t, name);
     }
     let next = wrong(t, name);
-    differ(got, want);
+    other_verdict(got, want);
     next
 }
 
-fn same_part(r: &[u8], want: Part) -> bool {
-    if r.len() != want.0 {
-        return false;
+// A record's length; no record is longer than 65,535 bytes.
+fn short(n: usize) -> u16 {
+    if n <= 65535 {
+        return n as u16;
     }
-    ground::byte(r, 0) == want.1
+    65535
 }
 
-fn differ_part(r: &[u8], want: Part) {
-    io::write_all(STDOUT_FILENO, b" got");
-    number(r.len() as u64);
-    number(ground::byte(r, 0) as u64);
-    io::write_all(STDOUT_FILENO, b" wanted");
-    number(want.0 as u64);
-    number(want.1 as u64);
-    io::write_all(STDOUT_FILENO, b"\n");
+fn part_of(r: &[u8]) -> Part {
+    Part(short(r.len()), ground::byte(r, 0) as u16)
+}
+
+fn same_part(got: Part, want: Part) -> bool {
+    if got.0 != want.0 {
+        return false;
+    }
+    got.1 == want.1
+}
+
+fn other_part(got: Part, want: Part) {
+    text(b" got");
+    number(got.0);
+    number(got.1);
+    text(b" wanted");
+    number(want.0);
+    number(want.1);
+    text(b"\n");
 }
 
 // The record of class c in the bundle that the buffer's first n bytes are.
-pub(crate) fn record(t: Tally, b: &Buffer, n: usize, c: u8, name: &[u8], want: Part) -> Tally {
-    let r = structure::record(first(b, n), c);
-    if same_part(r, want) {
+pub(crate) fn record(t: Tally, b: &Buffer, n: usize, c: u16, name: &[u8], want: Part) -> Tally {
+    let got = part_of(structure::record(first(b, n), (c % 256) as u8));
+    if same_part(got, want) {
         return right(t, name);
     }
     let next = wrong(t, name);
-    differ_part(r, want);
+    other_part(got, want);
+    next
+}
+
+// A step of a script that is none.
+pub(crate) fn unknown(t: Tally, step: &[u8]) -> Tally {
+    let next = wrong(t, step);
+    text(b" is no step\n");
     next
 }
 
 pub(crate) fn total(t: Tally) {
     io::print_decimal(STDOUT_FILENO, t.cases);
-    io::write_all(STDOUT_FILENO, b" cases, ");
+    text(b" cases, ");
     io::print_decimal(STDOUT_FILENO, t.wrong);
-    io::write_all(STDOUT_FILENO, b" wrong\n");
+    text(b" wrong\n");
 }

@@ -1,931 +1,276 @@
-// Verdict 7: the instruction table.
-use crate::build;
-use crate::bundles;
-use crate::parts::ATHROW;
+// Verdict 7. `pair`: address l of class 0 (V 2, k 3) at 4l - 4, of class 1 (V 3, k 4) at 48 + 4l.
 use crate::parts::Buffer;
-use crate::parts::Code;
-use crate::parts::ENTER;
-use crate::parts::EXIT;
-use crate::parts::Entry;
-use crate::parts::IF;
-use crate::parts::INC;
-use crate::parts::LOAD;
-use crate::parts::NEW;
-use crate::parts::POP;
-use crate::parts::PUSH0;
-use crate::parts::RETURN;
-use crate::parts::START;
-use crate::parts::STORE;
-use crate::report;
 use crate::report::Tally;
-use crate::report::Want;
+use crate::script;
 
-// The bundle `pair` with this instruction at an address of class 0, of which V is 2 and k is 3; address l stands at 4l - 4.
-fn zero(t: Tally, b: &mut Buffer, name: &[u8], address: u8, c: Code, want: Want) -> Tally {
-    let n = bundles::pair(b);
-    build::code(b, back(4 * (address as usize)), c);
-    report::verdict(t, b, n, name, want)
-}
-
-fn back(p: usize) -> usize {
-    if p < 4 { 0 } else { p - 4 }
-}
-
-// The bundle `pair` with this instruction at an address of class 1, of which V is 3 and k is 4; address l stands at 48 + 4l.
-fn one(t: Tally, b: &mut Buffer, name: &[u8], address: u8, c: Code, want: Want) -> Tally {
-    let n = bundles::pair(b);
-    build::code(b, 48 + 4 * (address as usize), c);
-    report::verdict(t, b, n, name, want)
-}
-
-fn kept_at_zero(t: Tally, b: &mut Buffer) -> Tally {
-    let t = zero(t, b, b"0: inc", 2, Code(INC, 0, 0), Want(0, 2, 0));
-    let t = zero(t, b, b"0: pop", 2, Code(POP, 0, 0), Want(0, 2, 0));
-    let t = zero(t, b, b"0: push0", 2, Code(PUSH0, 0, 0), Want(0, 2, 0));
-    let t = zero(t, b, b"0: load 0", 2, Code(LOAD, 0, 0), Want(0, 2, 0));
-    let t = zero(t, b, b"0: store 0", 2, Code(STORE, 0, 0), Want(0, 2, 0));
-    let t = zero(t, b, b"0: if 2", 2, Code(IF, 0, 2), Want(0, 2, 0));
-    let t = zero(t, b, b"0: enter 0", 2, Code(ENTER, 0, 0), Want(0, 2, 0));
-    let t = zero(t, b, b"0: exit 0", 2, Code(EXIT, 0, 0), Want(0, 2, 0));
-    let t = zero(t, b, b"0: new 0", 2, Code(NEW, 0, 0), Want(0, 2, 0));
-    let t = zero(t, b, b"0: start 0", 2, Code(START, 0, 0), Want(0, 2, 0));
-    let t = zero(t, b, b"0: athrow", 2, Code(ATHROW, 0, 0), Want(0, 2, 0));
-    zero(t, b, b"0: return", 2, Code(RETURN, 0, 0), Want(0, 2, 0))
-}
-
-fn kept_at_one(t: Tally, b: &mut Buffer) -> Tally {
-    let t = one(t, b, b"1: inc", 1, Code(INC, 0, 0), Want(0, 2, 0));
-    let t = one(t, b, b"1: pop", 1, Code(POP, 0, 0), Want(0, 2, 0));
-    let t = one(t, b, b"1: push0", 1, Code(PUSH0, 0, 0), Want(0, 2, 0));
-    let t = one(t, b, b"1: load 0", 1, Code(LOAD, 0, 0), Want(0, 2, 0));
-    let t = one(t, b, b"1: store 0", 1, Code(STORE, 0, 0), Want(0, 2, 0));
-    let t = one(t, b, b"1: if 3", 1, Code(IF, 0, 3), Want(0, 2, 0));
-    let t = one(t, b, b"1: enter 0", 1, Code(ENTER, 0, 0), Want(0, 2, 0));
-    let t = one(t, b, b"1: exit 0", 1, Code(EXIT, 0, 0), Want(0, 2, 0));
-    let t = one(
+fn kept(t: Tally, b: &mut Buffer) -> Tally {
+    script::run(
         t,
         b,
-        b"1: new 0, handler 1",
-        1,
-        Code(NEW, 0, 1),
-        Want(0, 2, 0),
-    );
-    let t = one(t, b, b"1: start 0", 1, Code(START, 0, 0), Want(0, 2, 0));
-    let t = one(
-        t,
-        b,
-        b"1: athrow, handler 1",
-        1,
-        Code(ATHROW, 0, 1),
-        Want(0, 2, 0),
-    );
-    one(t, b, b"1: return", 1, Code(RETURN, 0, 0), Want(0, 2, 0))
+        b"pair; code 4 inc 0 0; verdict 0 2 0: class 0, inc
+pair; code 4 pop 0 0; verdict 0 2 0: class 0, pop
+pair; code 4 push0 0 0; verdict 0 2 0: class 0, push0
+pair; code 4 load 0 0; verdict 0 2 0: class 0, load 0
+pair; code 4 store 0 0; verdict 0 2 0: class 0, store 0
+pair; code 4 if 0 2; verdict 0 2 0: class 0, if 2
+pair; code 4 enter 0 0; verdict 0 2 0: class 0, enter 0
+pair; code 4 exit 0 0; verdict 0 2 0: class 0, exit 0
+pair; code 4 new 0 0; verdict 0 2 0: class 0, new 0
+pair; code 4 start 0 0; verdict 0 2 0: class 0, start 0
+pair; code 4 athrow 0 0; verdict 0 2 0: class 0, athrow
+pair; code 4 return 0 0; verdict 0 2 0: class 0, return
+pair; code 52 inc 0 0; verdict 0 2 0: class 1, inc
+pair; code 52 pop 0 0; verdict 0 2 0: class 1, pop
+pair; code 52 push0 0 0; verdict 0 2 0: class 1, push0
+pair; code 52 load 0 0; verdict 0 2 0: class 1, load 0
+pair; code 52 store 0 0; verdict 0 2 0: class 1, store 0
+pair; code 52 if 0 3; verdict 0 2 0: class 1, if 3
+pair; code 52 enter 0 0; verdict 0 2 0: class 1, enter 0
+pair; code 52 exit 0 0; verdict 0 2 0: class 1, exit 0
+pair; code 52 new 0 1; verdict 0 2 0: class 1, new 0, handler 1
+pair; code 52 start 0 0; verdict 0 2 0: class 1, start 0
+pair; code 52 athrow 0 1; verdict 0 2 0: class 1, athrow, handler 1
+pair; code 52 return 0 0; verdict 0 2 0: class 1, return
+",
+    )
 }
 
 fn opcodes(t: Tally, b: &mut Buffer) -> Tally {
-    let t = zero(t, b, b"0: opcode 0", 1, Code(0, 0, 0), Want(7, 0, 1));
-    let t = zero(t, b, b"0: opcode 13", 2, Code(13, 0, 0), Want(7, 0, 2));
-    let t = zero(t, b, b"0: opcode 255", 2, Code(255, 0, 0), Want(7, 0, 2));
-    let t = zero(t, b, b"0: opcode 0, last", 3, Code(0, 0, 0), Want(7, 0, 3));
-    let t = zero(
+    script::run(
         t,
         b,
-        b"0: opcode 13, last",
-        3,
-        Code(13, 0, 0),
-        Want(7, 0, 3),
-    );
-    let t = one(t, b, b"1: opcode 0", 3, Code(0, 0, 0), Want(7, 1, 3));
-    let t = one(t, b, b"1: opcode 13", 1, Code(13, 0, 0), Want(7, 1, 1));
-    let t = one(
-        t,
-        b,
-        b"1: opcode 12 + 128",
-        2,
-        Code(140, 0, 0),
-        Want(7, 1, 2),
-    );
-    one(
-        t,
-        b,
-        b"1: opcode 255, last",
-        4,
-        Code(255, 0, 0),
-        Want(7, 1, 4),
+        b"pair; code 0 0 0 0; verdict 7 0 1: class 0, opcode 0
+pair; code 4 13 0 0; verdict 7 0 2: class 0, opcode 13
+pair; code 4 255 0 0; verdict 7 0 2: class 0, opcode 255
+pair; code 8 0 0 0; verdict 7 0 3: class 0, opcode 0, last
+pair; code 8 13 0 0; verdict 7 0 3: class 0, opcode 13, last
+pair; code 60 0 0 0; verdict 7 1 3: class 1, opcode 0
+pair; code 52 13 0 0; verdict 7 1 1: class 1, opcode 13
+pair; code 56 140 0 0; verdict 7 1 2: class 1, opcode 12 + 128
+pair; code 64 255 0 0; verdict 7 1 4: class 1, opcode 255, last
+",
     )
 }
 
 fn operands(t: Tally, b: &mut Buffer) -> Tally {
-    let t = zero(
+    script::run(
         t,
         b,
-        b"0: inc, operand 1",
-        1,
-        Code(INC, 1, 0),
-        Want(7, 0, 1),
-    );
-    let t = zero(
-        t,
-        b,
-        b"0: pop, operand 1",
-        2,
-        Code(POP, 1, 0),
-        Want(7, 0, 2),
-    );
-    let t = zero(
-        t,
-        b,
-        b"0: push0, operand 1",
-        1,
-        Code(PUSH0, 1, 0),
-        Want(7, 0, 1),
-    );
-    let t = zero(
-        t,
-        b,
-        b"0: if 1, operand 1",
-        2,
-        Code(IF, 1, 1),
-        Want(7, 0, 2),
-    );
-    let t = zero(
-        t,
-        b,
-        b"0: athrow, operand 1",
-        3,
-        Code(ATHROW, 1, 0),
-        Want(7, 0, 3),
-    );
-    let t = zero(
-        t,
-        b,
-        b"0: return, operand 1",
-        3,
-        Code(RETURN, 1, 0),
-        Want(7, 0, 3),
-    );
-    let t = one(
-        t,
-        b,
-        b"1: inc, operand 255",
-        2,
-        Code(INC, 255, 0),
-        Want(7, 1, 2),
-    );
-    let t = one(
-        t,
-        b,
-        b"1: pop, operand 255",
-        3,
-        Code(POP, 255, 0),
-        Want(7, 1, 3),
-    );
-    let t = one(
-        t,
-        b,
-        b"1: push0, operand 255",
-        1,
-        Code(PUSH0, 255, 0),
-        Want(7, 1, 1),
-    );
-    let t = one(
-        t,
-        b,
-        b"1: if 1, operand 255",
-        2,
-        Code(IF, 255, 1),
-        Want(7, 1, 2),
-    );
-    let t = one(
-        t,
-        b,
-        b"1: athrow, operand 255",
-        4,
-        Code(ATHROW, 255, 0),
-        Want(7, 1, 4),
-    );
-    one(
-        t,
-        b,
-        b"1: return, operand 255",
-        3,
-        Code(RETURN, 255, 0),
-        Want(7, 1, 3),
+        b"pair; code 0 inc 1 0; verdict 7 0 1: class 0, inc, operand 1
+pair; code 4 pop 1 0; verdict 7 0 2: class 0, pop, operand 1
+pair; code 0 push0 1 0; verdict 7 0 1: class 0, push0, operand 1
+pair; code 4 if 1 1; verdict 7 0 2: class 0, if 1, operand 1
+pair; code 8 athrow 1 0; verdict 7 0 3: class 0, athrow, operand 1
+pair; code 8 return 1 0; verdict 7 0 3: class 0, return, operand 1
+pair; code 56 inc 255 0; verdict 7 1 2: class 1, inc, operand 255
+pair; code 60 pop 255 0; verdict 7 1 3: class 1, pop, operand 255
+pair; code 52 push0 255 0; verdict 7 1 1: class 1, push0, operand 255
+pair; code 56 if 255 1; verdict 7 1 2: class 1, if 1, operand 255
+pair; code 64 athrow 255 0; verdict 7 1 4: class 1, athrow, operand 255
+pair; code 60 return 255 0; verdict 7 1 3: class 1, return, operand 255
+",
     )
 }
 
-fn fields_at_zero(t: Tally, b: &mut Buffer) -> Tally {
-    let t = zero(
+fn fields(t: Tally, b: &mut Buffer) -> Tally {
+    script::run(
         t,
         b,
-        b"0: inc, address 1",
-        1,
-        Code(INC, 0, 1),
-        Want(7, 0, 1),
-    );
-    let t = zero(
-        t,
-        b,
-        b"0: pop, address 1",
-        2,
-        Code(POP, 0, 1),
-        Want(7, 0, 2),
-    );
-    let t = zero(
-        t,
-        b,
-        b"0: push0, address 1",
-        1,
-        Code(PUSH0, 0, 1),
-        Want(7, 0, 1),
-    );
-    let t = zero(
-        t,
-        b,
-        b"0: load 0, address 1",
-        2,
-        Code(LOAD, 0, 1),
-        Want(7, 0, 2),
-    );
-    let t = zero(
-        t,
-        b,
-        b"0: store 0, address 1",
-        1,
-        Code(STORE, 0, 1),
-        Want(7, 0, 1),
-    );
-    let t = zero(
-        t,
-        b,
-        b"0: enter 0, address 1",
-        2,
-        Code(ENTER, 0, 1),
-        Want(7, 0, 2),
-    );
-    let t = zero(
-        t,
-        b,
-        b"0: exit 0, address 1",
-        1,
-        Code(EXIT, 0, 1),
-        Want(7, 0, 1),
-    );
-    let t = zero(
-        t,
-        b,
-        b"0: start 0, address 1",
-        2,
-        Code(START, 0, 1),
-        Want(7, 0, 2),
-    );
-    zero(
-        t,
-        b,
-        b"0: return, address 1",
-        3,
-        Code(RETURN, 0, 1),
-        Want(7, 0, 3),
+        b"pair; code 0 inc 0 1; verdict 7 0 1: class 0, inc, address 1
+pair; code 4 pop 0 1; verdict 7 0 2: class 0, pop, address 1
+pair; code 0 push0 0 1; verdict 7 0 1: class 0, push0, address 1
+pair; code 4 load 0 1; verdict 7 0 2: class 0, load 0, address 1
+pair; code 0 store 0 1; verdict 7 0 1: class 0, store 0, address 1
+pair; code 4 enter 0 1; verdict 7 0 2: class 0, enter 0, address 1
+pair; code 0 exit 0 1; verdict 7 0 1: class 0, exit 0, address 1
+pair; code 4 start 0 1; verdict 7 0 2: class 0, start 0, address 1
+pair; code 8 return 0 1; verdict 7 0 3: class 0, return, address 1
+pair; code 60 inc 0 256; verdict 7 1 3: class 1, inc, address 256
+pair; code 56 pop 0 256; verdict 7 1 2: class 1, pop, address 256
+pair; code 60 push0 0 256; verdict 7 1 3: class 1, push0, address 256
+pair; code 52 load 0 256; verdict 7 1 1: class 1, load 0, address 256
+pair; code 60 store 0 256; verdict 7 1 3: class 1, store 0, address 256
+pair; code 56 enter 0 256; verdict 7 1 2: class 1, enter 0, address 256
+pair; code 60 exit 0 256; verdict 7 1 3: class 1, exit 0, address 256
+pair; code 52 start 0 256; verdict 7 1 1: class 1, start 0, address 256
+pair; code 64 return 0 256; verdict 7 1 4: class 1, return, address 256
+",
     )
 }
 
-fn fields_at_one(t: Tally, b: &mut Buffer) -> Tally {
-    let t = one(
+fn variables(t: Tally, b: &mut Buffer) -> Tally {
+    script::run(
         t,
         b,
-        b"1: inc, address 256",
-        3,
-        Code(INC, 0, 256),
-        Want(7, 1, 3),
-    );
-    let t = one(
-        t,
-        b,
-        b"1: pop, address 256",
-        2,
-        Code(POP, 0, 256),
-        Want(7, 1, 2),
-    );
-    let t = one(
-        t,
-        b,
-        b"1: push0, address 256",
-        3,
-        Code(PUSH0, 0, 256),
-        Want(7, 1, 3),
-    );
-    let t = one(
-        t,
-        b,
-        b"1: load 0, address 256",
-        1,
-        Code(LOAD, 0, 256),
-        Want(7, 1, 1),
-    );
-    let t = one(
-        t,
-        b,
-        b"1: store 0, address 256",
-        3,
-        Code(STORE, 0, 256),
-        Want(7, 1, 3),
-    );
-    let t = one(
-        t,
-        b,
-        b"1: enter 0, address 256",
-        2,
-        Code(ENTER, 0, 256),
-        Want(7, 1, 2),
-    );
-    let t = one(
-        t,
-        b,
-        b"1: exit 0, address 256",
-        3,
-        Code(EXIT, 0, 256),
-        Want(7, 1, 3),
-    );
-    let t = one(
-        t,
-        b,
-        b"1: start 0, address 256",
-        1,
-        Code(START, 0, 256),
-        Want(7, 1, 1),
-    );
-    one(
-        t,
-        b,
-        b"1: return, address 256",
-        4,
-        Code(RETURN, 0, 256),
-        Want(7, 1, 4),
+        b"pair; code 0 load 1 0; verdict 0 2 0: class 0, load 1 of 2
+pair; code 0 load 2 0; verdict 7 0 1: class 0, load 2 of 2
+pair; code 4 store 1 0; verdict 0 2 0: class 0, store 1 of 2
+pair; code 4 store 2 0; verdict 7 0 2: class 0, store 2 of 2
+pair; code 0 enter 1 0; verdict 0 2 0: class 0, enter 1 of 2
+pair; code 0 enter 2 0; verdict 7 0 1: class 0, enter 2 of 2
+pair; code 4 exit 1 0; verdict 0 2 0: class 0, exit 1 of 2
+pair; code 4 exit 2 0; verdict 7 0 2: class 0, exit 2 of 2
+pair; code 60 load 2 0; verdict 0 2 0: class 1, load 2 of 3
+pair; code 60 load 3 0; verdict 7 1 3: class 1, load 3 of 3
+pair; code 52 store 2 0; verdict 0 2 0: class 1, store 2 of 3
+pair; code 52 store 3 0; verdict 7 1 1: class 1, store 3 of 3
+pair; code 56 enter 2 0; verdict 0 2 0: class 1, enter 2 of 3
+pair; code 56 enter 3 0; verdict 7 1 2: class 1, enter 3 of 3
+pair; code 60 exit 2 0; verdict 0 2 0: class 1, exit 2 of 3
+pair; code 60 exit 3 0; verdict 7 1 3: class 1, exit 3 of 3
+pair; code 60 load 255 0; verdict 7 1 3: class 1, load 255
+",
     )
-}
-
-fn variables_at_zero(t: Tally, b: &mut Buffer) -> Tally {
-    let t = zero(t, b, b"0: load 1 of 2", 1, Code(LOAD, 1, 0), Want(0, 2, 0));
-    let t = zero(t, b, b"0: load 2 of 2", 1, Code(LOAD, 2, 0), Want(7, 0, 1));
-    let t = zero(
-        t,
-        b,
-        b"0: store 1 of 2",
-        2,
-        Code(STORE, 1, 0),
-        Want(0, 2, 0),
-    );
-    let t = zero(
-        t,
-        b,
-        b"0: store 2 of 2",
-        2,
-        Code(STORE, 2, 0),
-        Want(7, 0, 2),
-    );
-    let t = zero(
-        t,
-        b,
-        b"0: enter 1 of 2",
-        1,
-        Code(ENTER, 1, 0),
-        Want(0, 2, 0),
-    );
-    let t = zero(
-        t,
-        b,
-        b"0: enter 2 of 2",
-        1,
-        Code(ENTER, 2, 0),
-        Want(7, 0, 1),
-    );
-    let t = zero(t, b, b"0: exit 1 of 2", 2, Code(EXIT, 1, 0), Want(0, 2, 0));
-    zero(t, b, b"0: exit 2 of 2", 2, Code(EXIT, 2, 0), Want(7, 0, 2))
-}
-
-fn variables_at_one(t: Tally, b: &mut Buffer) -> Tally {
-    let t = one(t, b, b"1: load 2 of 3", 3, Code(LOAD, 2, 0), Want(0, 2, 0));
-    let t = one(t, b, b"1: load 3 of 3", 3, Code(LOAD, 3, 0), Want(7, 1, 3));
-    let t = one(
-        t,
-        b,
-        b"1: store 2 of 3",
-        1,
-        Code(STORE, 2, 0),
-        Want(0, 2, 0),
-    );
-    let t = one(
-        t,
-        b,
-        b"1: store 3 of 3",
-        1,
-        Code(STORE, 3, 0),
-        Want(7, 1, 1),
-    );
-    let t = one(
-        t,
-        b,
-        b"1: enter 2 of 3",
-        2,
-        Code(ENTER, 2, 0),
-        Want(0, 2, 0),
-    );
-    let t = one(
-        t,
-        b,
-        b"1: enter 3 of 3",
-        2,
-        Code(ENTER, 3, 0),
-        Want(7, 1, 2),
-    );
-    let t = one(t, b, b"1: exit 2 of 3", 3, Code(EXIT, 2, 0), Want(0, 2, 0));
-    let t = one(t, b, b"1: exit 3 of 3", 3, Code(EXIT, 3, 0), Want(7, 1, 3));
-    one(t, b, b"1: load 255", 3, Code(LOAD, 255, 0), Want(7, 1, 3))
 }
 
 fn classes(t: Tally, b: &mut Buffer) -> Tally {
-    let t = zero(t, b, b"0: new 1 of 2", 1, Code(NEW, 1, 0), Want(0, 2, 0));
-    let t = zero(t, b, b"0: new 2 of 2", 1, Code(NEW, 2, 0), Want(7, 0, 1));
-    let t = zero(
+    script::run(
         t,
         b,
-        b"0: start 1 of 2",
-        2,
-        Code(START, 1, 0),
-        Want(0, 2, 0),
-    );
-    let t = zero(
-        t,
-        b,
-        b"0: start 2 of 2",
-        2,
-        Code(START, 2, 0),
-        Want(7, 0, 2),
-    );
-    let t = one(t, b, b"1: new 1 of 2", 2, Code(NEW, 1, 0), Want(0, 2, 0));
-    let t = one(t, b, b"1: new 2 of 2", 2, Code(NEW, 2, 0), Want(7, 1, 2));
-    let t = one(
-        t,
-        b,
-        b"1: start 1 of 2",
-        3,
-        Code(START, 1, 0),
-        Want(0, 2, 0),
-    );
-    let t = one(
-        t,
-        b,
-        b"1: start 2 of 2",
-        3,
-        Code(START, 2, 0),
-        Want(7, 1, 3),
-    );
-    let t = one(
-        t,
-        b,
-        b"1: new FF, no descriptor",
-        1,
-        Code(NEW, 255, 0),
-        Want(7, 1, 1),
-    );
-    one(
-        t,
-        b,
-        b"1: start FF, no descriptor",
-        1,
-        Code(START, 255, 0),
-        Want(7, 1, 1),
+        b"pair; code 0 new 1 0; verdict 0 2 0: class 0, new 1 of 2
+pair; code 0 new 2 0; verdict 7 0 1: class 0, new 2 of 2
+pair; code 4 start 1 0; verdict 0 2 0: class 0, start 1 of 2
+pair; code 4 start 2 0; verdict 7 0 2: class 0, start 2 of 2
+pair; code 56 new 1 0; verdict 0 2 0: class 1, new 1 of 2
+pair; code 56 new 2 0; verdict 7 1 2: class 1, new 2 of 2
+pair; code 60 start 1 0; verdict 0 2 0: class 1, start 1 of 2
+pair; code 60 start 2 0; verdict 7 1 3: class 1, start 2 of 2
+pair; code 52 new 255 0; verdict 7 1 1: class 1, new FF, no descriptor
+pair; code 52 start 255 0; verdict 7 1 1: class 1, start FF, no descriptor
+",
     )
 }
 
 fn targets(t: Tally, b: &mut Buffer) -> Tally {
-    let t = zero(t, b, b"0: if 0", 2, Code(IF, 0, 0), Want(7, 0, 2));
-    let t = zero(t, b, b"0: if 1", 2, Code(IF, 0, 1), Want(0, 2, 0));
-    let t = zero(t, b, b"0: if 3 of 3", 2, Code(IF, 0, 3), Want(0, 2, 0));
-    let t = zero(t, b, b"0: if 4 of 3", 2, Code(IF, 0, 4), Want(7, 0, 2));
-    let t = zero(t, b, b"0: if 256", 1, Code(IF, 0, 256), Want(7, 0, 1));
-    let t = zero(t, b, b"0: if 65535", 1, Code(IF, 0, 65535), Want(7, 0, 1));
-    let t = one(t, b, b"1: if 0", 3, Code(IF, 0, 0), Want(7, 1, 3));
-    let t = one(t, b, b"1: if 1", 3, Code(IF, 0, 1), Want(0, 2, 0));
-    let t = one(t, b, b"1: if 4 of 4", 1, Code(IF, 0, 4), Want(0, 2, 0));
-    one(t, b, b"1: if 5 of 4", 1, Code(IF, 0, 5), Want(7, 1, 1))
-}
-
-fn handlers_of_new(t: Tally, b: &mut Buffer) -> Tally {
-    let t = zero(
+    script::run(
         t,
         b,
-        b"0: new 0, no handler",
-        1,
-        Code(NEW, 0, 0),
-        Want(0, 2, 0),
-    );
-    let t = zero(
-        t,
-        b,
-        b"0: new 0, handler 3 of 3",
-        1,
-        Code(NEW, 0, 3),
-        Want(0, 2, 0),
-    );
-    let t = zero(
-        t,
-        b,
-        b"0: new 0, handler 4 of 3",
-        1,
-        Code(NEW, 0, 4),
-        Want(7, 0, 1),
-    );
-    let t = zero(
-        t,
-        b,
-        b"0: new 0, handler 256",
-        2,
-        Code(NEW, 0, 256),
-        Want(7, 0, 2),
-    );
-    let t = zero(
-        t,
-        b,
-        b"0: new 2 of 2, handler 3 of 3",
-        2,
-        Code(NEW, 2, 3),
-        Want(7, 0, 2),
-    );
-    let t = one(
-        t,
-        b,
-        b"1: new 1, no handler",
-        3,
-        Code(NEW, 1, 0),
-        Want(0, 2, 0),
-    );
-    let t = one(
-        t,
-        b,
-        b"1: new 1, handler 4 of 4",
-        3,
-        Code(NEW, 1, 4),
-        Want(0, 2, 0),
-    );
-    one(
-        t,
-        b,
-        b"1: new 1, handler 5 of 4",
-        3,
-        Code(NEW, 1, 5),
-        Want(7, 1, 3),
+        b"pair; code 4 if 0 0; verdict 7 0 2: class 0, if 0
+pair; code 4 if 0 1; verdict 0 2 0: class 0, if 1
+pair; code 4 if 0 3; verdict 0 2 0: class 0, if 3 of 3
+pair; code 4 if 0 4; verdict 7 0 2: class 0, if 4 of 3
+pair; code 0 if 0 256; verdict 7 0 1: class 0, if 256
+pair; code 0 if 0 65535; verdict 7 0 1: class 0, if 65535
+pair; code 60 if 0 0; verdict 7 1 3: class 1, if 0
+pair; code 60 if 0 1; verdict 0 2 0: class 1, if 1
+pair; code 52 if 0 4; verdict 0 2 0: class 1, if 4 of 4
+pair; code 52 if 0 5; verdict 7 1 1: class 1, if 5 of 4
+",
     )
 }
 
-fn handlers_of_athrow(t: Tally, b: &mut Buffer) -> Tally {
-    let t = zero(
+fn handlers(t: Tally, b: &mut Buffer) -> Tally {
+    script::run(
         t,
         b,
-        b"0: athrow, no handler",
-        1,
-        Code(ATHROW, 0, 0),
-        Want(0, 2, 0),
-    );
-    let t = zero(
-        t,
-        b,
-        b"0: athrow, handler 3 of 3",
-        1,
-        Code(ATHROW, 0, 3),
-        Want(0, 2, 0),
-    );
-    let t = zero(
-        t,
-        b,
-        b"0: athrow, handler 4 of 3",
-        1,
-        Code(ATHROW, 0, 4),
-        Want(7, 0, 1),
-    );
-    let t = zero(
-        t,
-        b,
-        b"0: athrow, handler 65535",
-        2,
-        Code(ATHROW, 0, 65535),
-        Want(7, 0, 2),
-    );
-    let t = one(
-        t,
-        b,
-        b"1: athrow, no handler",
-        2,
-        Code(ATHROW, 0, 0),
-        Want(0, 2, 0),
-    );
-    let t = one(
-        t,
-        b,
-        b"1: athrow, handler 4 of 4",
-        2,
-        Code(ATHROW, 0, 4),
-        Want(0, 2, 0),
-    );
-    one(
-        t,
-        b,
-        b"1: athrow, handler 5 of 4",
-        2,
-        Code(ATHROW, 0, 5),
-        Want(7, 1, 2),
+        b"pair; code 0 new 0 0; verdict 0 2 0: class 0, new 0, no handler
+pair; code 0 new 0 3; verdict 0 2 0: class 0, new 0, handler 3 of 3
+pair; code 0 new 0 4; verdict 7 0 1: class 0, new 0, handler 4 of 3
+pair; code 4 new 0 256; verdict 7 0 2: class 0, new 0, handler 256
+pair; code 4 new 2 3; verdict 7 0 2: class 0, new 2 of 2, handler 3 of 3
+pair; code 0 athrow 0 0; verdict 0 2 0: class 0, athrow, no handler
+pair; code 0 athrow 0 3; verdict 0 2 0: class 0, athrow, handler 3 of 3
+pair; code 0 athrow 0 4; verdict 7 0 1: class 0, athrow, handler 4 of 3
+pair; code 4 athrow 0 65535; verdict 7 0 2: class 0, athrow, handler 65535
+pair; code 60 new 1 0; verdict 0 2 0: class 1, new 1, no handler
+pair; code 60 new 1 4; verdict 0 2 0: class 1, new 1, handler 4 of 4
+pair; code 60 new 1 5; verdict 7 1 3: class 1, new 1, handler 5 of 4
+pair; code 56 athrow 0 0; verdict 0 2 0: class 1, athrow, no handler
+pair; code 56 athrow 0 4; verdict 0 2 0: class 1, athrow, handler 4 of 4
+pair; code 56 athrow 0 5; verdict 7 1 2: class 1, athrow, handler 5 of 4
+",
     )
 }
 
-fn last_at_zero(t: Tally, b: &mut Buffer) -> Tally {
-    let t = zero(t, b, b"0: last inc", 3, Code(INC, 0, 0), Want(7, 0, 3));
-    let t = zero(t, b, b"0: last pop", 3, Code(POP, 0, 0), Want(7, 0, 3));
-    let t = zero(t, b, b"0: last push0", 3, Code(PUSH0, 0, 0), Want(7, 0, 3));
-    let t = zero(t, b, b"0: last load 0", 3, Code(LOAD, 0, 0), Want(7, 0, 3));
-    let t = zero(
+fn last(t: Tally, b: &mut Buffer) -> Tally {
+    script::run(
         t,
         b,
-        b"0: last store 0",
-        3,
-        Code(STORE, 0, 0),
-        Want(7, 0, 3),
-    );
-    let t = zero(t, b, b"0: last if 1", 3, Code(IF, 0, 1), Want(7, 0, 3));
-    let t = zero(
-        t,
-        b,
-        b"0: last enter 0",
-        3,
-        Code(ENTER, 0, 0),
-        Want(7, 0, 3),
-    );
-    let t = zero(t, b, b"0: last exit 0", 3, Code(EXIT, 0, 0), Want(7, 0, 3));
-    let t = zero(t, b, b"0: last new 0", 3, Code(NEW, 0, 0), Want(7, 0, 3));
-    let t = zero(
-        t,
-        b,
-        b"0: last start 0",
-        3,
-        Code(START, 0, 0),
-        Want(7, 0, 3),
-    );
-    let t = zero(
-        t,
-        b,
-        b"0: last athrow",
-        3,
-        Code(ATHROW, 0, 0),
-        Want(0, 2, 0),
-    );
-    zero(
-        t,
-        b,
-        b"0: last return",
-        3,
-        Code(RETURN, 0, 0),
-        Want(0, 2, 0),
+        b"pair; code 8 inc 0 0; verdict 7 0 3: class 0, last inc
+pair; code 8 pop 0 0; verdict 7 0 3: class 0, last pop
+pair; code 8 push0 0 0; verdict 7 0 3: class 0, last push0
+pair; code 8 load 0 0; verdict 7 0 3: class 0, last load 0
+pair; code 8 store 0 0; verdict 7 0 3: class 0, last store 0
+pair; code 8 if 0 1; verdict 7 0 3: class 0, last if 1
+pair; code 8 enter 0 0; verdict 7 0 3: class 0, last enter 0
+pair; code 8 exit 0 0; verdict 7 0 3: class 0, last exit 0
+pair; code 8 new 0 0; verdict 7 0 3: class 0, last new 0
+pair; code 8 start 0 0; verdict 7 0 3: class 0, last start 0
+pair; code 8 athrow 0 0; verdict 0 2 0: class 0, last athrow
+pair; code 8 return 0 0; verdict 0 2 0: class 0, last return
+pair; code 64 inc 0 0; verdict 7 1 4: class 1, last inc
+pair; code 64 if 0 4; verdict 7 1 4: class 1, last if 4
+pair; code 64 new 0 1; verdict 7 1 4: class 1, last new 0, handler 1
+pair; code 64 start 1 0; verdict 7 1 4: class 1, last start 1
+pair; code 64 athrow 0 4; verdict 0 2 0: class 1, last athrow, handler 4
+pair; code 64 athrow 0 5; verdict 7 1 4: class 1, last athrow, handler 5
+pair; code 64 return 0 0; verdict 0 2 0: class 1, last return
+one; code 0 inc 0 0; verdict 7 0 1: only inc
+one; code 0 if 0 1; verdict 7 0 1: only if 1
+one; code 0 new 0 0; verdict 7 0 1: only new 0
+one; code 0 athrow 0 0; verdict 0 1 0: only athrow
+one; code 0 athrow 0 1; verdict 0 1 0: only athrow, handler 1
+one; code 0 athrow 0 2; verdict 7 0 1: only athrow, handler 2
+one; code 0 return 0 0; verdict 0 1 0: only return
+",
     )
 }
 
-fn last_at_one(t: Tally, b: &mut Buffer) -> Tally {
-    let t = one(t, b, b"1: last inc", 4, Code(INC, 0, 0), Want(7, 1, 4));
-    let t = one(t, b, b"1: last if 4", 4, Code(IF, 0, 4), Want(7, 1, 4));
-    let t = one(
-        t,
-        b,
-        b"1: last new 0, handler 1",
-        4,
-        Code(NEW, 0, 1),
-        Want(7, 1, 4),
-    );
-    let t = one(
-        t,
-        b,
-        b"1: last start 1",
-        4,
-        Code(START, 1, 0),
-        Want(7, 1, 4),
-    );
-    let t = one(
-        t,
-        b,
-        b"1: last athrow, handler 4",
-        4,
-        Code(ATHROW, 0, 4),
-        Want(0, 2, 0),
-    );
-    let t = one(
-        t,
-        b,
-        b"1: last athrow, handler 5",
-        4,
-        Code(ATHROW, 0, 5),
-        Want(7, 1, 4),
-    );
-    one(
-        t,
-        b,
-        b"1: last return",
-        4,
-        Code(RETURN, 0, 0),
-        Want(0, 2, 0),
-    )
-}
-
-// The bundle of one class and one address, V 1.
-fn alone(t: Tally, b: &mut Buffer, name: &[u8], c: Code, want: Want) -> Tally {
-    let n = bundles::one(b);
-    build::code(b, 0, c);
-    report::verdict(t, b, n, name, want)
-}
-
-fn only_address(t: Tally, b: &mut Buffer) -> Tally {
-    let t = alone(t, b, b"only inc", Code(INC, 0, 0), Want(7, 0, 1));
-    let t = alone(t, b, b"only if 1", Code(IF, 0, 1), Want(7, 0, 1));
-    let t = alone(t, b, b"only new 0", Code(NEW, 0, 0), Want(7, 0, 1));
-    let t = alone(t, b, b"only athrow", Code(ATHROW, 0, 0), Want(0, 1, 0));
-    let t = alone(
-        t,
-        b,
-        b"only athrow, handler 1",
-        Code(ATHROW, 0, 1),
-        Want(0, 1, 0),
-    );
-    let t = alone(
-        t,
-        b,
-        b"only athrow, handler 2",
-        Code(ATHROW, 0, 2),
-        Want(7, 0, 1),
-    );
-    alone(t, b, b"only return", Code(RETURN, 0, 0), Want(0, 1, 0))
-}
-
-// The bundle `roomy` with these entries and this instruction; address l of either class stands at 13 + 4l.
-fn long(
-    t: Tally,
-    b: &mut Buffer,
-    name: &[u8],
-    k: Pair,
-    address: u16,
-    c: Code,
-    want: Want,
-) -> Tally {
-    let n = bundles::roomy(b, Entry(17, 0, 0, 0, 0, k.0), Entry(17, 0, 0, 0, 0, k.1));
-    build::code(b, 13 + 4 * (address as usize), c);
-    report::verdict(t, b, n, name, want)
-}
-
-// The code lengths of classes 0 and 1.
-struct Pair(pub u16, pub u16);
-
+// `roomy`: entries at 1,400 and 1,408; address l at 13 + 4l.
 fn long_code(t: Tally, b: &mut Buffer) -> Tally {
-    let t = long(
+    script::run(
         t,
         b,
-        b"if 256 of 256",
-        Pair(256, 1),
-        2,
-        Code(IF, 0, 256),
-        Want(0, 2, 0),
-    );
-    let t = long(
-        t,
-        b,
-        b"if 257 of 256",
-        Pair(256, 1),
-        2,
-        Code(IF, 0, 257),
-        Want(7, 0, 2),
-    );
-    let t = long(
-        t,
-        b,
-        b"athrow, handler 256 of 256",
-        Pair(256, 1),
-        256,
-        Code(ATHROW, 0, 256),
-        Want(0, 2, 0),
-    );
-    let t = long(
-        t,
-        b,
-        b"athrow, handler 257 of 256",
-        Pair(256, 1),
-        256,
-        Code(ATHROW, 0, 257),
-        Want(7, 0, 256),
-    );
-    let t = long(
-        t,
-        b,
-        b"0: opcode 0 at 255 of 256",
-        Pair(256, 1),
-        255,
-        Code(0, 0, 0),
-        Want(7, 0, 255),
-    );
-    let t = long(
-        t,
-        b,
-        b"0: last inc at 256",
-        Pair(256, 1),
-        256,
-        Code(INC, 0, 0),
-        Want(7, 0, 256),
-    );
-    let t = long(
-        t,
-        b,
-        b"0: opcode 0 after 256 of 256",
-        Pair(256, 1),
-        257,
-        Code(0, 0, 0),
-        Want(0, 2, 0),
-    );
-    let t = long(
-        t,
-        b,
-        b"1: opcode 0 at 255 of 256",
-        Pair(1, 256),
-        255,
-        Code(0, 0, 0),
-        Want(7, 1, 255),
-    );
-    let t = long(
-        t,
-        b,
-        b"1: last inc at 256",
-        Pair(1, 256),
-        256,
-        Code(INC, 0, 0),
-        Want(7, 1, 256),
-    );
-    let t = long(
-        t,
-        b,
-        b"V 0: load 0",
-        Pair(2, 1),
-        1,
-        Code(LOAD, 0, 0),
-        Want(7, 0, 1),
-    );
-    long(
-        t,
-        b,
-        b"1: inc at 2, last of class 1 alone",
-        Pair(3, 2),
-        2,
-        Code(INC, 0, 0),
-        Want(7, 1, 2),
+        b"roomy; entry 1400 17 0 0 0 0 256; code 21 if 0 256; verdict 0 2 0: k 256: if 256 at 2
+code 21 if 0 257; verdict 7 0 2: k 256: if 257 at 2
+code 21 return 0 0; code 1037 athrow 0 256; verdict 0 2 0: k 256: athrow, handler 256, at 256
+code 1037 athrow 0 257; verdict 7 0 256: k 256: athrow, handler 257, at 256
+code 1037 inc 0 0; verdict 7 0 256: k 256: inc at 256
+code 1033 0 0 0; verdict 7 0 255: k 256: opcode 0 at 255
+roomy; entry 1400 17 0 0 0 0 256; code 1041 0 0 0; verdict 0 2 0: k 256: opcode 0 after 256
+roomy; entry 1408 17 0 0 0 0 256; code 1037 inc 0 0; verdict 7 1 256: k 256: class 1: inc at 256
+code 1033 0 0 0; verdict 7 1 255: k 256: class 1: opcode 0 at 255
+",
     )
 }
 
-// V 16 and k 2 at class 0, and this instruction at its address 1.
-fn sixteen(t: Tally, b: &mut Buffer, name: &[u8], c: Code, want: Want) -> Tally {
-    let n = bundles::roomy(b, Entry(17, 0, 16, 0, 0, 2), Entry(21, 0, 0, 0, 0, 1));
-    build::code(b, 17, c);
-    report::verdict(t, b, n, name, want)
-}
-
-fn sixteen_variables(t: Tally, b: &mut Buffer) -> Tally {
-    let t = sixteen(t, b, b"load 15 of 16", Code(LOAD, 15, 0), Want(0, 2, 0));
-    let t = sixteen(t, b, b"load 16 of 16", Code(LOAD, 16, 0), Want(7, 0, 1));
-    let t = sixteen(t, b, b"exit 15 of 16", Code(EXIT, 15, 0), Want(0, 2, 0));
-    sixteen(t, b, b"exit 16 of 16", Code(EXIT, 16, 0), Want(7, 0, 1))
+fn limits(t: Tally, b: &mut Buffer) -> Tally {
+    script::run(
+        t,
+        b,
+        b"roomy; entry 1400 17 0 0 0 0 3; entry 1408 17 0 0 0 0 2; code 21 inc 0 0; verdict 7 1 2: inc at 2, the last address of class 1 and not of class 0
+roomy; entry 1400 17 0 0 0 0 2; code 17 load 0 0; verdict 7 0 1: V 0: load 0
+roomy; entry 1400 17 0 16 0 0 2; entry 1408 21 0 0 0 0 1; code 17 load 15 0; verdict 0 2 0: V 16: load 15
+code 17 load 16 0; verdict 7 0 1: V 16: load 16
+code 17 exit 15 0; verdict 0 2 0: V 16: exit 15
+code 17 exit 16 0; verdict 7 0 1: V 16: exit 16
+",
+    )
 }
 
 // Cases A and B of document 01 keep to the table; their rows are not read here.
 fn document(t: Tally, b: &mut Buffer) -> Tally {
-    let n = bundles::document_a(b, 8);
-    let t = report::verdict(t, b, n, b"case A", Want(0, 1, 0));
-    let n = bundles::document_a(b, 9);
-    let t = report::verdict(t, b, n, b"case B", Want(0, 1, 0));
-    let n = bundles::document_a(b, 10);
-    report::verdict(t, b, n, b"case A with if 10", Want(7, 0, 5))
-}
-
-fn fields(t: Tally, b: &mut Buffer) -> Tally {
-    let t = kept_at_zero(t, b);
-    let t = kept_at_one(t, b);
-    let t = opcodes(t, b);
-    let t = operands(t, b);
-    let t = fields_at_zero(t, b);
-    let t = fields_at_one(t, b);
-    let t = variables_at_zero(t, b);
-    let t = variables_at_one(t, b);
-    classes(t, b)
+    script::run(
+        t,
+        b,
+        b"case_a; verdict 0 1 0: case A
+code 16 if 0 9; verdict 0 1 0: case B
+code 16 if 0 10; verdict 7 0 5: case A with if 10
+",
+    )
 }
 
 pub(crate) fn cases(t: Tally, b: &mut Buffer) -> Tally {
+    let t = kept(t, b);
+    let t = opcodes(t, b);
+    let t = operands(t, b);
     let t = fields(t, b);
+    let t = variables(t, b);
+    let t = classes(t, b);
     let t = targets(t, b);
-    let t = handlers_of_new(t, b);
-    let t = handlers_of_athrow(t, b);
-    let t = last_at_zero(t, b);
-    let t = last_at_one(t, b);
-    let t = only_address(t, b);
+    let t = handlers(t, b);
+    let t = last(t, b);
     let t = long_code(t, b);
-    let t = sixteen_variables(t, b);
+    let t = limits(t, b);
     document(t, b)
 }
