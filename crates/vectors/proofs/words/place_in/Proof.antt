@@ -1,0 +1,66 @@
+use Prim.Native.Nat.{_≤_, _+_, _-_}
+use lib.ListN.{length}
+use borrow.Author.Needs.{needs}
+use Rattle.vectors.proofs.words.place_in.Statement.{statement}
+use Rattle.vectors.proofs.words.place_in.Tie as tie
+
+abbrev Inv-loop : tie.InvT-loop
+Inv-loop words w at₀ place₀ at place = at ≤ length words + 1
+
+abbrev μ-loop : tie.MeasureT-loop
+μ-loop words w at₀ place₀ at place = length words + 1 - at
+
+loop-holds : tie.Need-loop-holds Inv-loop μ-loop
+loop-holds c = search needs
+
+upto-requires : tie.Need-upto-requires Inv-loop μ-loop
+upto-requires c κs = search needs
+
+sub-same : tie.Need-sub-same Inv-loop μ-loop
+sub-same c = search needs
+
+part-same-start : tie.Need-part-same-start Inv-loop μ-loop
+part-same-start c = search needs
+
+part-same-end : tie.Need-part-same-end Inv-loop μ-loop
+part-same-end c = search needs
+
+same-requires : tie.Need-same-requires Inv-loop μ-loop
+same-requires c κs = search needs
+
+returns : tie.Need-returns Inv-loop μ-loop
+returns c = search needs
+
+wrapping-add-u16-requires : tie.Need-wrapping-add-u16-requires Inv-loop μ-loop
+wrapping-add-u16-requires c κs = search needs
+
+add-at : tie.Need-add-at Inv-loop μ-loop
+add-at c = search needs
+
+loop-less : tie.Need-loop-less Inv-loop μ-loop
+loop-less c = search needs
+
+loop-again : tie.Need-loop-again Inv-loop μ-loop
+loop-again c = search needs
+
+returns-2 : tie.Need-returns-2 Inv-loop μ-loop
+returns-2 c = search needs
+
+pub place-in-spec : {M : Type 1} → statement M
+place-in-spec =
+    tie.close
+    (tie.spec
+    Inv-loop
+    μ-loop
+    loop-holds
+    upto-requires
+    sub-same
+    part-same-start
+    part-same-end
+    same-requires
+    returns
+    wrapping-add-u16-requires
+    add-at
+    loop-less
+    loop-again
+    returns-2)

@@ -1,0 +1,161 @@
+// Runs scripts of cases. A script is lines of steps; `; ` parts the steps of a line, and a line that begins with # is a comment.
+// A step is a word and its numbers, parted by one space each; an opcode's name stands for its number. A step that states what is wanted ends in
+// a colon and the case's name. The buffer and the bundle's length go on from step to step.
+use crate::build;
+use crate::bundles;
+use crate::parts::Buffer;
+use crate::parts::Code;
+use crate::parts::Entry;
+use crate::report;
+use crate::report::Part;
+use crate::report::Tally;
+use crate::report::Want;
+use crate::words;
+ghost use Prim.Native.Nat.{_+_, _≤_};
+ghost use lib.ListN.{length};
+
+// A step that is the name of a bundle of `bundles` puts it at the start of the buffer. The others:
+//
+// One byte: place, byte.
+const BYTE: u16 = 27;
+// A two-byte number: place, number.
+const WORD: u16 = 28;
+// An instruction: place, opcode, operand, address field.
+const CODE: u16 = 29;
+// A directory entry: place, offset, n, V, K, zero, k.
+const ENTRY: u16 = 30;
+// Equal bytes, which end the bundle: place, byte, how many.
+const BYTES: u16 = 31;
+// The trailer, which ends the bundle: place, directory offset, class count, length.
+const TRAILER: u16 = 32;
+// Another length of the bundle: the length.
+const LENGTH: u16 = 33;
+// A case, the verdict: number, class, address.
+const VERDICT: u16 = 34;
+// A case, the record of a class: class; length, first byte.
+const RECORD: u16 = 35;
+
+// How far a script has come: the tally, and the length of the bundle.
+struct Progress {
+    tally: Tally,
+    length: usize,
+}
+
+fn with_length(p: Progress, n: usize) -> Progress {
+    let tally = p.tally;
+    Progress { tally, length: n }
+}
+
+fn with_tally(p: Progress, t: Tally) -> Progress {
+    Progress {
+        tally: t,
+        length: p.length,
+    }
+}
+
+// A step that changes bytes of the bundle; what comes back is of no use.
+fn alter(b: &mut Buffer, v: [u16; 8]) -> usize {
+    let at = v[1] as usize;
+    let kind = v[0];
+    match kind {
+        BYTE => build::byte(b, at, v[2]),
+        WORD => build::word(b, at, v[2]),
+        CODE => build::code(b, at, Code(v[2], v[3], v[4])),
+        ENTRY => build::entry(b, at, Entry(v[2], v[3], v[4], v[5], v[6], v[7])),
+        _ => at,
+    }
+}
+
+// A step that makes the bundle anew or gives it another end: the bundle's length.
+fn extend(b: &mut Buffer, v: [u16; 8]) -> usize {
+    let at = v[1] as usize;
+    let kind = v[0];
+    match kind {
+        BYTES => build::bytes(b, at, v[2], v[3] as usize),
+        TRAILER => build::trailer(b, at, v[2], v[3], v[4]),
+        LENGTH => at,
+        _ => bundles::bundle(b, kind),
+    }
+}
+
+// A step that states what is wanted, or one that is none.
+fn compare(t: Tally, b: &Buffer, n: usize, v: [u16; 8], name: &[u8]) -> Tally {
+    let kind = v[0];
+    match kind {
+        VERDICT => report::verdict(t, b, n, name, Want(v[1], v[2], v[3])),
+        RECORD => report::record(t, b, n, v[1], name, Part(v[2], v[3])),
+        _ => report::unknown(t, name),
+    }
+}
+
+fn act(p: Progress, b: &mut Buffer, v: [u16; 8], name: &[u8]) -> Progress {
+    let kind = v[0];
+    if kind < BYTE {
+        return with_length(p, extend(b, v));
+    }
+    if kind < BYTES {
+        alter(b, v);
+        return p;
+    }
+    if kind < VERDICT {
+        return with_length(p, extend(b, v));
+    }
+    let t = p.tally;
+    with_tally(p, compare(t, b, p.length, v, name))
+}
+
+// What follows a colon and a space.
+fn name_of<'a>(s: &'a [u8], colon: usize) -> &'a [u8] {
+    if s.len() < 2 {
+        return s;
+    }
+    if s.len() - 2 < colon {
+        return s;
+    }
+    let start = colon + 2;
+    &s[start..]
+}
+
+fn step(p: Progress, b: &mut Buffer, s: &[u8]) -> Progress {
+    let colon = words::upto(s, 0, b':');
+    act(p, b, words::values(&s[0..colon]), name_of(s, colon))
+}
+
+fn line(p: Progress, b: &mut Buffer, s: &[u8]) -> Progress {
+    let mut next = p;
+    let mut at = 0;
+    while at < s.len() {
+        let end = words::upto(s, at, b';');
+        next = step(next, b, &s[at..end]);
+        at = after(s, end + 1);
+    }
+    next
+}
+
+// A place, or the one after it where a space stands there.
+fn after(s: &[u8], at: usize) -> usize
+    requires { ⌜ at ≤ length (now s) + 1 ⌝ }
+    ensures { λ r. ⌜ (at ≤ r) × (r ≤ at + 1) ⌝ }
+{
+    if ground::byte(s, at) == b' ' {
+        return at + 1;
+    }
+    at
+}
+
+// Runs the lines in order.
+pub(crate) fn run(t: Tally, b: &mut Buffer, s: &[u8]) -> Tally {
+    let mut p = Progress {
+        tally: t,
+        length: 0,
+    };
+    let mut at = 0;
+    while at < s.len() {
+        let end = words::upto(s, at, b'\n');
+        if s[at] != b'#' {
+            p = line(p, b, &s[at..end]);
+        }
+        at = end + 1;
+    }
+    p.tally
+}
