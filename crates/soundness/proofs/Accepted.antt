@@ -1,4 +1,4 @@
--- What an accepted bundle gives to soundness: facts of its program P, and of its rows R, by class and address. Nothing below here sees a byte.
+-- What an accepted bundle gives to soundness: facts of its program P, and of its rows R, by class and address. Only `Verified` and `Demand3` see the bytes.
 use mathlib.Core.Path.{_≡_}
 use mathlib.Core.Bool.{true}
 use Prim.Native.Nat.{ℕ, _≤_, _<_}
