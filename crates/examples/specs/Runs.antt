@@ -1,0 +1,112 @@
+-- Accepted bundles, a schedule of each, and what document 01 answers to it.
+use mathlib.Core.List.{List, [], _∷_, _++_}
+use mathlib.Core.Bool.{Bool, true, false}
+use Prim.Native.Nat.{ℕ, zero, suc}
+use Rattle.state.specs.declared.State.{State}
+use Rattle.machine.specs.Machine.{freshOf}
+use Rattle.soundness.specs.Sound.{Step, answer, after}
+use Rattle.cases.specs.Cases.{caseA}
+
+-- the answers of a list of steps, one after another
+unfoldable pub answersFrom : List ℕ → State → List Step → List ℕ
+answersFrom b s [] = []
+answersFrom b s (x ∷ xs) = answer b s x ∷ answersFrom b (after b s x) xs
+
+abbrev pub answers : List ℕ → List Step → List ℕ
+answers b xs = answersFrom b (freshOf b .state) xs
+
+-- a step of thread n, and one in which an allocation fails
+abbrev pub by : ℕ → Step
+by n = record { who = n; fails = false }
+
+abbrev pub failing : ℕ → Step
+failing n = record { who = n; fails = true }
+
+-- n steps of thread 0
+abbrev pub main : ℕ → List Step
+main zero = []
+main (suc n) = by 0 ∷ main n
+
+pub record Run : Type 0 where
+  pub bundle : List ℕ
+  pub schedule : List Step
+  pub wanted : List ℕ
+
+abbrev pub i : ℕ → ℕ → ℕ → List ℕ
+i opcode operand address = opcode ∷ operand ∷ 0 ∷ address ∷ []
+
+abbrev pub top : List ℕ
+top = 2 ∷ 0 ∷ 0 ∷ 0 ∷ []
+
+abbrev pub int : List ℕ
+int = 1 ∷ 0 ∷ 0 ∷ 0 ∷ []
+
+abbrev pub none : List ℕ
+none = 0 ∷ 0 ∷ 0 ∷ 0 ∷ []
+
+-- a reference of class c with (0,0), and with (1,-1)
+abbrev pub free : ℕ → List ℕ
+free c = 3 ∷ c ∷ 0 ∷ 64 ∷ []
+
+abbrev pub owing : ℕ → List ℕ
+owing c = 3 ∷ c ∷ 1 ∷ 63 ∷ []
+
+-- a row of one variable and one stack entry
+abbrev pub row : List ℕ → ℕ → List ℕ → List ℕ
+row variable depth entry = variable ++ (depth ∷ entry)
+
+-- A with an inc before the if: 1 new 0; 2 store 0; 3 monitorenter 0; 4 push0; 5 inc; 6 if 9; 7 monitorexit 0; 8 return; 9 monitorexit 0; 10 return
+abbrev pub otherArm : List ℕ
+otherArm =
+    i 9 0 0 ++ i 5 0 0 ++ i 7 0 0 ++ i 3 0 0 ++ i 1 0 0 ++ i 6 0 9 ++ i 8 0 0 ++ i 12 0 0 ++ i 8 0 0 ++ i 12 0 0
+    ++ row top 0 none
+    ++ row top 1 (free 0)
+    ++ row (free 0) 0 none
+    ++ row (owing 0) 0 none
+    ++ row (owing 0) 1 int
+    ++ row (owing 0) 1 int
+    ++ row (owing 0) 0 none
+    ++ row (free 0) 0 none
+    ++ row (owing 0) 0 none
+    ++ row (free 0) 0 none
+    ++ (0 ∷ 0 ∷ 0 ∷ 1 ∷ 1 ∷ 0 ∷ 0 ∷ 10 ∷ [])
+    ++ (0 ∷ 130 ∷ 1 ∷ 0 ∷ 0 ∷ 146 ∷ 76 ∷ 75 ∷ [])
+
+-- a row of one variable and three stack entries
+abbrev wide : List ℕ → ℕ → List ℕ → List ℕ → List ℕ
+wide variable depth first second = variable ++ (depth ∷ first ++ second ++ none)
+
+-- main: 1 new 1; 2 new 0; 3 store 0; 4 load 0; 5 start 1; 6 monitorenter 0; 7 monitorexit 0; 8 return (V 1, K 3);
+-- class 1, with one argument of class 0: 1 monitorenter 0; 2 monitorexit 0; 3 return (V 1, K 0)
+abbrev pub twoThreads : List ℕ
+twoThreads =
+    i 9 1 0 ++ i 9 0 0 ++ i 5 0 0 ++ i 4 0 0 ++ i 10 1 0 ++ i 7 0 0 ++ i 8 0 0 ++ i 12 0 0
+    ++ wide top 0 none none
+    ++ wide top 1 (free 1) none
+    ++ wide top 2 (free 0) (free 1)
+    ++ wide (free 0) 1 (free 1) none
+    ++ wide (free 0) 2 (free 0) (free 1)
+    ++ wide (free 0) 0 none none
+    ++ wide (owing 0) 0 none none
+    ++ wide (free 0) 0 none none
+    ++ (0 ∷ i 7 0 0 ++ i 8 0 0 ++ i 12 0 0)
+    ++ (free 0 ++ (0 ∷ []))
+    ++ (owing 0 ++ (0 ∷ []))
+    ++ (free 0 ++ (0 ∷ []))
+    ++ (0 ∷ 0 ∷ 0 ∷ 1 ∷ 3 ∷ 0 ∷ 0 ∷ 8 ∷ [])
+    ++ (0 ∷ 168 ∷ 1 ∷ 1 ∷ 0 ∷ 0 ∷ 0 ∷ 3 ∷ [])
+    ++ (0 ∷ 196 ∷ 2 ∷ 0 ∷ 0 ∷ 220 ∷ 76 ∷ 75 ∷ [])
+
+-- case A: thread 0 takes the lock, falls through, gives it back and ends;
+-- A with an inc: it takes the other arm and ends too;
+-- two threads: the second waits (3) while the first holds, then goes on; both end
+abbrev pub runs : List Run
+runs =
+    record { bundle = caseA; schedule = main 7; wanted = 0 ∷ 0 ∷ 0 ∷ 0 ∷ 0 ∷ 0 ∷ 1 ∷ [] }
+    ∷ record { bundle = otherArm; schedule = main 8; wanted = 0 ∷ 0 ∷ 0 ∷ 0 ∷ 0 ∷ 0 ∷ 0 ∷ 1 ∷ [] }
+    ∷ record {
+      bundle = twoThreads;
+      schedule = main 6 ++ (by 1 ∷ by 0 ∷ by 1 ∷ by 0 ∷ by 1 ∷ by 1 ∷ []);
+      wanted = 0 ∷ 0 ∷ 0 ∷ 0 ∷ 0 ∷ 0 ∷ 3 ∷ 0 ∷ 0 ∷ 1 ∷ 0 ∷ 1 ∷ [];
+    }
+    ∷ []
