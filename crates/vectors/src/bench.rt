@@ -51,10 +51,8 @@ pub(crate) fn bench(b: &mut Buffer) -> usize {
 }
 
 // A place of the row at such an address.
-fn place(l: u16, k: usize) -> usize
-    requires { ⌜ k < 1000000 ⌝ }
-{
-    120 * ((l / 10) as usize) + 25 * ((l % 10) as usize) + k
+fn place(l: u16, k: u16) -> usize {
+    120 * ((l / 10) as usize) + 25 * ((l % 10) as usize) + k as usize
 }
 
 pub(crate) fn instruction(b: &mut Buffer, l: u16, c: Code) -> usize {
@@ -88,7 +86,7 @@ fn quad(b: &mut Buffer, at: usize, v: [u16; 8]) -> usize {
 }
 
 pub(crate) fn variable(b: &mut Buffer, l: u16, i: u16, v: [u16; 8]) -> usize {
-    quad(b, place(l, 4 * (i as usize)), v)
+    quad(b, place(l, 4 * (i % 16)), v)
 }
 
 pub(crate) fn depth(b: &mut Buffer, l: u16, d: u16) -> usize {
@@ -97,5 +95,5 @@ pub(crate) fn depth(b: &mut Buffer, l: u16, d: u16) -> usize {
 
 pub(crate) fn stacked(b: &mut Buffer, l: u16, j: u16, v: [u16; 8]) -> usize {
     depth(b, l, std::num::wrapping_add_u16(j, 1));
-    quad(b, place(l, 4 * (j as usize) + 9), v)
+    quad(b, place(l, 4 * (j % 16) + 9), v)
 }
