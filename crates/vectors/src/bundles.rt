@@ -1,4 +1,5 @@
 // Well-formed bundles, and the places at which the cases alter them. A record is n + 4k + k(4V + 1 + 4K) bytes.
+use crate::bench;
 use crate::build;
 use crate::parts::ATHROW;
 use crate::parts::Buffer;
@@ -43,6 +44,8 @@ const EIGHT: u16 = 25;
 
 const NINE: u16 = 26;
 
+const BENCH: u16 = 27;
+
 // Puts one of these bundles at the start of the buffer and gives back its length.
 pub(crate) fn bundle(b: &mut Buffer, which: u16) -> usize {
     match which {
@@ -60,6 +63,7 @@ pub(crate) fn bundle(b: &mut Buffer, which: u16) -> usize {
         TWO => shared(b, 2, 29),
         EIGHT => shared(b, 8, 77),
         NINE => shared(b, 9, 85),
+        BENCH => bench::bench(b),
         _ => 0,
     }
 }

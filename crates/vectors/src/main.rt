@@ -1,12 +1,18 @@
 // Bundles with the answers that document 01 gives them, worked out by hand, against the answers of the code.
+mod bench;
 mod build;
 mod bundles;
 mod classes;
 mod container;
+mod forms;
 mod order;
 mod parts;
 mod records;
 mod report;
+mod rules_locks;
+mod rules_stack;
+mod rules_start;
+mod rules_throws;
 mod script;
 mod table;
 mod words;
@@ -21,5 +27,10 @@ fn main() {
     let t = order::cases(t, &mut b);
     let t = table::cases(t, &mut b);
     let t = records::cases(t, &mut b);
+    let t = rules_stack::cases(t, &mut b);
+    let t = rules_locks::cases(t, &mut b);
+    let t = rules_throws::cases(t, &mut b);
+    let t = rules_start::cases(t, &mut b);
+    let t = forms::cases(t, &mut b);
     report::total(t);
 }

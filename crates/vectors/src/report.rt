@@ -74,15 +74,23 @@ fn other_verdict(got: Verdict, want: Want) {
     text(b"\n");
 }
 
-// The verdict on the bundle that the buffer's first n bytes are.
-pub(crate) fn verdict(t: Tally, b: &Buffer, n: usize, name: &[u8], want: Want) -> Tally {
-    let got = structure::structure(first(b, n));
+fn held(t: Tally, got: Verdict, name: &[u8], want: Want) -> Tally {
     if same_verdict(got, want) {
         return right(t, name);
     }
     let next = wrong(t, name);
     other_verdict(got, want);
     next
+}
+
+// The verdict on the structure of the bundle that the buffer's first n bytes are.
+pub(crate) fn verdict(t: Tally, b: &Buffer, n: usize, name: &[u8], want: Want) -> Tally {
+    held(t, structure::structure(first(b, n)), name, want)
+}
+
+// The verifier's verdict on the same.
+pub(crate) fn judged(t: Tally, b: &Buffer, n: usize, name: &[u8], want: Want) -> Tally {
+    held(t, verifier::verify(first(b, n)), name, want)
 }
 
 // A record's length; no record is longer than 65,535 bytes.

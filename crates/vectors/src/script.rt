@@ -1,6 +1,7 @@
 // Runs scripts of cases. A script is lines of steps; `; ` parts the steps of a line, and a line that begins with # is a comment.
 // A step is a word and its numbers, parted by one space each; an opcode's name stands for its number. A step that states what is wanted ends in
 // a colon and the case's name. The buffer and the bundle's length go on from step to step.
+use crate::bench;
 use crate::build;
 use crate::bundles;
 use crate::parts::Buffer;
@@ -17,23 +18,34 @@ ghost use lib.ListN.{length};
 // A step that is the name of a bundle of `bundles` puts it at the start of the buffer. The others:
 //
 // One byte: place, byte.
-const BYTE: u16 = 27;
+const BYTE: u16 = 28;
 // A two-byte number: place, number.
-const WORD: u16 = 28;
+const WORD: u16 = 29;
 // An instruction: place, opcode, operand, address field.
-const CODE: u16 = 29;
+const CODE: u16 = 30;
 // A directory entry: place, offset, n, V, K, zero, k.
-const ENTRY: u16 = 30;
+const ENTRY: u16 = 31;
+// The next four are of the bundle `bench`; address l of class c is written 10c + l.
+// An instruction: address, opcode, operand, address field.
+const AT: u16 = 32;
+// An entry of a variable: address, variable; the entry.
+const VAR: u16 = 33;
+// An entry of the stack, which the depth then ends with: address, index from the top; the entry.
+const STACK: u16 = 34;
+// A depth: address, depth.
+const DEPTH: u16 = 35;
 // Equal bytes, which end the bundle: place, byte, how many.
-const BYTES: u16 = 31;
+const BYTES: u16 = 36;
 // The trailer, which ends the bundle: place, directory offset, class count, length.
-const TRAILER: u16 = 32;
+const TRAILER: u16 = 37;
 // Another length of the bundle: the length.
-const LENGTH: u16 = 33;
-// A case, the verdict: number, class, address.
-const VERDICT: u16 = 34;
+const LENGTH: u16 = 38;
+// A case, the verdict on the structure: number, class, address.
+const VERDICT: u16 = 39;
 // A case, the record of a class: class; length, first byte.
-const RECORD: u16 = 35;
+const RECORD: u16 = 40;
+// A case, the verifier's verdict: number, class, address.
+const JUDGE: u16 = 41;
 
 // How far a script has come: the tally, and the length of the bundle.
 struct Progress {
@@ -62,6 +74,10 @@ fn alter(b: &mut Buffer, v: [u16; 8]) -> usize {
         WORD => build::word(b, at, v[2]),
         CODE => build::code(b, at, Code(v[2], v[3], v[4])),
         ENTRY => build::entry(b, at, Entry(v[2], v[3], v[4], v[5], v[6], v[7])),
+        AT => bench::instruction(b, v[1], Code(v[2], v[3], v[4])),
+        VAR => bench::variable(b, v[1], v[2], v),
+        STACK => bench::stacked(b, v[1], v[2], v),
+        DEPTH => bench::depth(b, v[1], v[2]),
         _ => at,
     }
 }
@@ -84,6 +100,7 @@ fn compare(t: Tally, b: &Buffer, n: usize, v: [u16; 8], name: &[u8]) -> Tally {
     match kind {
         VERDICT => report::verdict(t, b, n, name, Want(v[1], v[2], v[3])),
         RECORD => report::record(t, b, n, v[1], name, Part(v[2], v[3])),
+        JUDGE => report::judged(t, b, n, name, Want(v[1], v[2], v[3])),
         _ => report::unknown(t, name),
     }
 }

@@ -60,15 +60,19 @@ fn place_in(words: &[u8], w: &[u8]) -> u16 {
     65535
 }
 
-// The opcodes stand at their own numbers; the numbers of the others are those of `bundles` and `script`.
+// The opcodes stand at their own numbers; the numbers of the others are those of `bundles`, `script` and `bench`.
 fn word(w: &[u8]) -> u16 {
     place_in(
-        b"inc pop push0 load store if enter exit new start athrow return one pair trio roomy lone front largest longest own_entry within_row case_a two eight nine byte word code entry bytes trailer length verdict record",
+        b"inc pop push0 load store if enter exit new start athrow return one pair trio roomy lone front largest longest own_entry within_row case_a two eight nine bench byte word code entry at var stack depth bytes trailer length verdict record judge int top ref",
         w,
     )
 }
 
+// A number below zero is the one that its low byte is right for.
 fn value(w: &[u8]) -> u16 {
+    if ground::byte(w, 0) == b'-' {
+        return std::num::wrapping_sub_u16(0, decimal(w));
+    }
     if ground::byte(w, 0) < 58 {
         return decimal(w);
     }
