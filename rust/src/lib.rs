@@ -6,10 +6,13 @@
 
 pub mod builder;
 pub mod bundle;
+pub mod comparison;
+pub mod digest;
 pub mod entries;
 pub mod generate;
 pub mod instructions;
 pub mod machine;
+pub mod proved;
 pub mod rng;
 pub mod rules;
 pub mod schedule;
