@@ -5,6 +5,7 @@ pub mod edges;
 pub mod flow;
 pub mod random;
 mod settle;
+pub mod sized;
 mod tempt;
 pub mod typed;
 mod writer;
