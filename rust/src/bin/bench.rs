@@ -114,7 +114,7 @@ fn machine_lines(rounds: usize) {
         let bundle = sized::endless(others);
         assert_eq!(
             proved::digest(&bundle, &schedule),
-            digest::of_run(&bundle, &schedule)
+            digest::of_run(&bundle, &schedule, &Slips::NONE)
         );
         let line = Line {
             name: format!("step on a {name} bundle"),
@@ -122,7 +122,7 @@ fn machine_lines(rounds: usize) {
             steps: STEPS,
         };
         let proved = |b: &[u8]| proved::digest(b, black_box(&schedule));
-        let reference = |b: &[u8]| digest::of_run(b, black_box(&schedule));
+        let reference = |b: &[u8]| digest::of_run(b, black_box(&schedule), &Slips::NONE);
         print(&line, &measure(&line, rounds, proved, reference));
     }
 }
