@@ -1,0 +1,58 @@
+//! Both machines on the same schedules from the fresh state: every answer.
+
+use super::{answers_text, lively_schedule, Differences};
+use crate::digest::mixed;
+use crate::generate::{self, typed};
+use crate::machine::{answer, fresh};
+use crate::proved;
+use crate::rng::Rng;
+
+#[derive(Debug, Default)]
+pub struct Runs {
+    schedules: u64,
+    /// Schedules whose bundle can be run at all.
+    running: u64,
+    steps: u64,
+    answers: [u64; 19],
+    pub differences: Differences,
+}
+
+impl Runs {
+    /// Well-typed bundles and any bundle in turn.
+    pub fn generated(&mut self, seed: u64) {
+        let mut rng = Rng::new(!seed);
+        let bundle = match seed % 3 {
+            0 => generate::bundle(seed).1,
+            _ => typed::well_typed(&mut rng),
+        };
+        let steps = match rng.below(10) {
+            0 => rng.below(4),
+            1 => rng.between(300, 1_000),
+            _ => rng.between(10, 200),
+        };
+        let (first, state) = fresh(&bundle);
+        let (schedule, answers) = lively_schedule(&mut rng, &bundle, state, steps);
+        let reference = answers.iter().fold(u64::from(first), |d, &a| mixed(d, a));
+        let proved = proved::digest(&bundle, &schedule);
+        if proved != reference {
+            let what =
+                format!("schedule seed {seed}: proved digest {proved}, reference {reference}");
+            self.differences.add(what, &[&bundle, &schedule]);
+        }
+        self.schedules += 1;
+        self.running += u64::from(first == answer::WENT_ON);
+        self.steps += schedule.len() as u64;
+        for answer in answers {
+            self.answers[usize::from(answer)] += 1;
+        }
+    }
+
+    pub fn print(&self) {
+        println!(
+            "schedules {} ({} of bundles that run), {} steps",
+            self.schedules, self.running, self.steps
+        );
+        println!("  steps by answer: {}", answers_text(&self.answers));
+        println!("  differences: {}", self.differences.0);
+    }
+}

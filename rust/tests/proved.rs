@@ -1,0 +1,67 @@
+//! The proved code behind its C calls, on the cases of document 01.
+
+use hveitmar_reference::builder::{case_a, lay_out};
+use hveitmar_reference::bundle::{Addr, Instr, Verdict};
+use hveitmar_reference::entries::Entry;
+use hveitmar_reference::generate::{self, typed};
+use hveitmar_reference::machine::fresh;
+use hveitmar_reference::rng::Rng;
+use hveitmar_reference::schedule::schedule;
+use hveitmar_reference::slips::{Slip, Slips};
+use hveitmar_reference::verify::verify;
+use hveitmar_reference::{digest, proved};
+
+#[test]
+fn cases_a_b_c_and_l() {
+    let mut method = case_a();
+    assert_eq!(
+        proved::verdict(&lay_out(&[method.clone()])),
+        Verdict::new(0, 1, 0)
+    );
+    method.code[4] = Instr::If(Addr(9));
+    assert_eq!(
+        proved::verdict(&lay_out(&[method.clone()])),
+        Verdict::new(9, 0, 5)
+    );
+    method.rows[8].variables[0] = Entry::reference(0, 1, -1);
+    assert_eq!(proved::verdict(&lay_out(&[method])), Verdict::new(9, 0, 8));
+    assert_eq!(proved::verdict(&[]), Verdict::new(1, 0, 0));
+}
+
+#[test]
+fn a_run_of_case_a() {
+    let bundle = lay_out(&[case_a()]);
+    // Seven steps end thread 0, the eighth finds it not live: 0 * 5, 1, 5.
+    assert_eq!(proved::digest(&bundle, &[0; 8]), 31 + 5);
+    assert_eq!(digest::of_run(&bundle, &[0; 8], &Slips::NONE), 31 + 5);
+    // The first new fails: 2 for the thread that ends, then 5.
+    assert_eq!(proved::digest(&bundle, &[0x80, 0]), 2 * 31 + 5);
+    // No bundle: 17 from the fresh machine, and again from a step.
+    assert_eq!(proved::digest(&[], &[0]), 17 * 31 + 17);
+}
+
+/// Were one side to make a slip, the comparison would show it.
+#[test]
+fn a_slipped_verifier_differs_from_the_proved_one() {
+    for slip in Slip::VERIFIER {
+        let differing = (0..3_000)
+            .map(|seed| generate::bundle(seed).1)
+            .filter(|b| verify(b, &slip.alone()) != proved::verdict(b))
+            .count();
+        assert!(differing >= 10, "{slip:?}: {differing}");
+    }
+}
+
+#[test]
+fn a_slipped_machine_differs_from_the_proved_one() {
+    for slip in Slip::MACHINE {
+        let differing = (0..1_000)
+            .filter(|&seed| {
+                let b = typed::well_typed(&mut Rng::new(seed));
+                let turns = schedule(&b, &fresh(&b).1, seed, 100);
+                digest::of_run(&b, &turns, &slip.alone()) != proved::digest(&b, &turns)
+            })
+            .count();
+        assert!(differing >= 10, "{slip:?}: {differing}");
+    }
+}
