@@ -5,3 +5,5 @@ pub mod Moved
 pub mod Changes
 pub mod Stays
 pub mod FreshStays
+pub mod CleanPlaces
+pub mod Clean
