@@ -2,6 +2,7 @@
 use mathlib.Core.List.{List, [], _∷_, map}
 use lib.ListN.{length}
 use mathlib.Core.Path.{_≡_, refl}
+use Rattle.ground.specs.Bytes.{quad}
 use Rattle.ground.specs.Bounded.{allBelow}
 use Rattle.ground.specs.Chain.{refuse, orThen, scan}
 use Rattle.instructions.specs.Table.{zeroed, instructionOf, targetOk, lastOk, instructionOk}
@@ -9,9 +10,9 @@ use Rattle.bundle.specs.Container.{headAt, classAt, width, size, recordFits, pa
 use Rattle.bundle.specs.Program.{methodOf, methodAt, programOf}
 use Rattle.structure.specs.Conditions.{lengthOk, trailerOk, directoryOk, mainOk, codeOk, limitsOk, descriptorOk, descriptorsOk, addressOk}
 use Rattle.structure.specs.Structure.{headOf, shapeOf, shapeAt, shapesOf, layoutOf, tableAt, tableOf, tableOfClass, tablesOf, structureOf}
-use Rattle.entries.specs.Entries.{zeros, pairOk, entryOf, argumentEntry, matches}
+use Rattle.entries.specs.Entries.{zeros, pairOk, entryOf, entryFrom, argumentEntry, matches}
 use Rattle.entries.specs.Fits.{pairFits, pairSplits, pairEnters, pairExits}
-use Rattle.rows.specs.Rows.{entryAt, startBehind, rowStart, variableAt, depthAt, stackAt}
+use Rattle.rows.specs.Rows.{startBehind, rowStart, variableWord, depthAt, stackWord, variableAt, stackAt}
 use Rattle.matching.specs.Matching.{varsFit, othersFit, depthsFit, stackFits, restFits, restFitsBut, varsGo, stackGoes, handledBy, throws}
 use Rattle.forms.specs.Forms.{entryFormed, varsFormed, stackFormed, rowFormed, firstVar, firstVars, firstRow}
 use Rattle.rules.specs.Rules.{incRule, popRule, push0Rule, loadRule, storeRule, ifRule, enterRule, exitRule, throwRule, newRule, argumentGoes, objectGoes, argumentsGo, startRule, returnRule}
@@ -19,7 +20,7 @@ use Rattle.verifier.specs.Verdict.{formAt, formsOf, formsOfClass, formsOfAll, r
 use Rattle.cases.specs.Cases.{Case, cases, caseA, caseB, caseC}
 
 pub cases-hold : map (λ (c : Case). c .given) cases ≡ map (λ (c : Case). c .wanted) cases
-unfolding allBelow refuse orThen scan zeroed instructionOf targetOk lastOk instructionOk headAt classAt width size recordFits partOf instructionPlace instructionFrom instructionAt methodOf methodAt programOf lengthOk trailerOk directoryOk mainOk codeOk limitsOk descriptorOk descriptorsOk addressOk headOf shapeOf shapeAt shapesOf layoutOf tableAt tableOf tableOfClass tablesOf structureOf zeros pairOk entryOf argumentEntry matches pairFits pairSplits pairEnters pairExits entryAt startBehind rowStart variableAt depthAt stackAt varsFit othersFit depthsFit stackFits restFits restFitsBut varsGo stackGoes handledBy throws entryFormed varsFormed stackFormed rowFormed firstVar firstVars firstRow incRule popRule push0Rule loadRule storeRule ifRule enterRule exitRule throwRule newRule argumentGoes objectGoes argumentsGo startRule returnRule formAt formsOf formsOfClass formsOfAll ruleVerdict rulesOf rulesOfClass rulesOfAll verdictOf
+unfolding allBelow quad refuse orThen scan zeroed instructionOf targetOk lastOk instructionOk headAt classAt width size recordFits partOf instructionPlace instructionFrom instructionAt methodOf methodAt programOf lengthOk trailerOk directoryOk mainOk codeOk limitsOk descriptorOk descriptorsOk addressOk headOf shapeOf shapeAt shapesOf layoutOf tableAt tableOf tableOfClass tablesOf structureOf zeros pairOk entryOf entryFrom argumentEntry matches pairFits pairSplits pairEnters pairExits startBehind rowStart variableWord depthAt stackWord variableAt stackAt varsFit othersFit depthsFit stackFits restFits restFitsBut varsGo stackGoes handledBy throws entryFormed varsFormed stackFormed rowFormed firstVar firstVars firstRow incRule popRule push0Rule loadRule storeRule ifRule enterRule exitRule throwRule newRule argumentGoes objectGoes argumentsGo startRule returnRule formAt formsOf formsOfClass formsOfAll ruleVerdict rulesOf rulesOfClass rulesOfAll verdictOf
 cases-hold = refl
 
 -- record 117 bytes, directory at 117, whole bundle 133

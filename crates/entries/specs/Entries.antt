@@ -1,6 +1,6 @@
 -- Document 01, types and pairs: what four bytes are, in a bundle of n classes. Ends are kept as stored, with 64 added, so that they are natural numbers.
 use mathlib.Core.Bool.{Bool, true, false, cond, _&&_}
-use Prim.Native.Nat.{ℕ}
+use Prim.Native.Nat.{ℕ, _/_, _%_}
 use lib.Dec.{leb, ltb, eqb}
 use Rattle.ground.specs.Chain.{refuse}
 use Rattle.entries.specs.declared.Entry.{Entry}
@@ -37,6 +37,10 @@ entryOf n kind c d e =
     (cond (eqb kind 3) (refuse (pairOk n c d e) Malformed (Ref c d e))
     Malformed)))
 
+-- the entry whose four bytes, the first the highest, make the number w
+unfoldable pub entryFrom : ℕ → ℕ → Entry
+entryFrom n w = entryOf n (w / 16777216) (w / 65536 % 256) (w / 256 % 256) (w % 256)
+
 -- Int and Top weigh d = 0, e = 0
 abbrev pub dipOf : Entry → ℕ
 dipOf Int = 0
@@ -72,6 +76,13 @@ isBlank Top = false
 isBlank (Ref c d e) = false
 isBlank Blank = true
 isBlank Malformed = false
+
+abbrev pub isMalformed : Entry → Bool
+isMalformed Int = false
+isMalformed Top = false
+isMalformed (Ref c d e) = false
+isMalformed Blank = false
+isMalformed Malformed = true
 
 -- Int, Top or a reference: what a variable and a stack entry in use must be
 abbrev pub isType : Entry → Bool

@@ -4,7 +4,7 @@ use Prim.Native.Nat.{ℕ, _+_}
 use lib.Dec.{leb, eqb}
 use Rattle.entries.specs.declared.Entry.{Entry}
 use Rattle.entries.specs.declared.Entry.the-variants.{Int, Top, Ref, Blank, Malformed}
-use Rattle.entries.specs.Entries.{noEnd, dipOf, endOf, isTop}
+use Rattle.entries.specs.Entries.{noEnd, dipOf, endOf, isTop, isBlank, isMalformed}
 
 -- Int fits Int or Top
 abbrev pub intFits : Entry → Bool
@@ -26,13 +26,13 @@ refFits c d e (Ref c′ d′ e′) = pairFits c d e c′ d′ e′
 refFits c d e Blank = false
 refFits c d e Malformed = false
 
--- Top fits Top
+-- Top fits Top; what is no type fits only its like, and no rule sees it, since 8 comes before 9
 abbrev pub entryFits : Entry → Entry → Bool
 entryFits Int y = intFits y
 entryFits Top y = isTop y
 entryFits (Ref c d e) y = refFits c d e y
-entryFits Blank y = false
-entryFits Malformed y = false
+entryFits Blank y = isBlank y
+entryFits Malformed y = isMalformed y
 
 -- may go: Int, Top, or a reference with e ≥ 0
 abbrev pub mayGo : Entry → Bool

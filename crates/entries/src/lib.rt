@@ -1,11 +1,11 @@
-// One entry of a row, by value. Ends are kept as stored, with 64 added.
+// One entry of a row, as the four-byte number that it is in the bundle and by value. Ends are kept as stored, with 64 added.
 ghost use mathlib.Core.Path.{_≡_};
 ghost use mathlib.Core.Bool.{_&&_};
-ghost use Prim.Native.Nat.{_≤_};
+ghost use Prim.Native.Nat.{_≤_, _/_, _%_};
 ghost use lib.Dec.{leb, eqb};
 ghost use Rattle.ground.specs.Chain.{refuse};
 ghost use Rattle.entries.specs.declared.Entry.the-variants.{Ref, Malformed};
-ghost use Rattle.entries.specs.Entries.{noEnd, zeros, pairOk, entryOf, dipOf, endOf, isInt, isTop, isBlank, isType, isOf, argumentEntry, matches};
+ghost use Rattle.entries.specs.Entries.{noEnd, zeros, pairOk, entryOf, entryFrom, dipOf, endOf, isInt, isTop, isBlank, isMalformed, isType, isOf, argumentEntry, matches};
 ghost use Rattle.entries.specs.Fits.{intFits, pairFits, refFits, entryFits, mayGo, goesAs, pairSplits, loadSplits, pairEnters, enterMoves, pairExits, exitMoves};
 
 // The greatest dip, the least and the greatest end, and an end of 0.
@@ -32,28 +32,13 @@ pub enum Entry {
 fn zeros(c: u8, d: u8, e: u8) -> bool
     ensures { λ r. ⌜ r ≡ zeros c d e ⌝ }
 {
-    if c != 0 {
-        return false;
-    }
-    if d != 0 {
-        return false;
-    }
-    e == 0
+    (c == 0) & (d == 0) & (e == 0)
 }
 
 fn pair_ok(n: u8, c: u8, d: u8, e: u8) -> bool
     ensures { λ r. ⌜ r ≡ pairOk n c d e ⌝ }
 {
-    if n <= c {
-        return false;
-    }
-    if MAX_DIP < d {
-        return false;
-    }
-    if e < MIN_END {
-        return false;
-    }
-    e <= MAX_END
+    (c < n) & (d <= MAX_DIP) & (MIN_END <= e) & (e <= MAX_END)
 }
 
 fn plain(c: u8, d: u8, e: u8, x: Entry) -> Entry
@@ -78,8 +63,7 @@ fn reference(n: u8, c: u8, d: u8, e: u8) -> Entry
     }
 }
 
-// The entry that four bytes are, in a bundle of n classes.
-pub fn entry_of(n: u8, kind: u8, c: u8, d: u8, e: u8) -> Entry
+fn entry_of(n: u8, kind: u8, c: u8, d: u8, e: u8) -> Entry
     ensures { λ r. ⌜ r ≡ entryOf n kind c d e ⌝ }
 {
     match kind {
@@ -89,6 +73,37 @@ pub fn entry_of(n: u8, kind: u8, c: u8, d: u8, e: u8) -> Entry
         3 => reference(n, c, d, e),
         _ => Entry::Malformed,
     }
+}
+
+fn kind_in(w: u32) -> u8
+    ensures { λ r. ⌜ r ≡ w / 16777216 ⌝ }
+{
+    (w / 16777216) as u8
+}
+
+fn class_in(w: u32) -> u8
+    ensures { λ r. ⌜ r ≡ w / 65536 % 256 ⌝ }
+{
+    (w / 65536 % 256) as u8
+}
+
+fn dip_in(w: u32) -> u8
+    ensures { λ r. ⌜ r ≡ w / 256 % 256 ⌝ }
+{
+    (w / 256 % 256) as u8
+}
+
+fn end_in(w: u32) -> u8
+    ensures { λ r. ⌜ r ≡ w % 256 ⌝ }
+{
+    (w % 256) as u8
+}
+
+// The entry that the four bytes of w are, in a bundle of n classes.
+pub fn entry_from(n: u8, w: u32) -> Entry
+    ensures { λ r. ⌜ r ≡ entryFrom n w ⌝ }
+{
+    entry_of(n, kind_in(w), class_in(w), dip_in(w), end_in(w))
 }
 
 fn dip_of(x: Entry) -> u16
@@ -155,7 +170,7 @@ pub fn is_top(x: Entry) -> bool
     }
 }
 
-pub fn is_blank(x: Entry) -> bool
+fn is_blank(x: Entry) -> bool
     ensures { λ r. ⌜ r ≡ isBlank x ⌝ }
 {
     match x {
@@ -171,20 +186,45 @@ pub fn is_blank(x: Entry) -> bool
     }
 }
 
-pub fn is_type(x: Entry) -> bool
-    ensures { λ r. ⌜ r ≡ isType x ⌝ }
+fn is_malformed(x: Entry) -> bool
+    ensures { λ r. ⌜ r ≡ isMalformed x ⌝ }
 {
     match x {
-        Entry::Int => true,
-        Entry::Top => true,
+        Entry::Int => false,
+        Entry::Top => false,
         Entry::Ref {
             class: _,
             dip: _,
             end: _,
-        } => true,
+        } => false,
         Entry::Blank => false,
-        Entry::Malformed => false,
+        Entry::Malformed => true,
     }
+}
+
+fn bytes_typed(n: u8, kind: u8, c: u8, d: u8, e: u8) -> bool
+    ensures { λ r. ⌜ r ≡ isType (entryOf n kind c d e) ⌝ }
+{
+    (((kind == 1) | (kind == 2)) & zeros(c, d, e)) | ((kind == 3) & pair_ok(n, c, d, e))
+}
+
+// Whether w is a type, told from its bytes: every entry of a bundle is asked.
+pub fn typed(n: u8, w: u32) -> bool
+    ensures { λ r. ⌜ r ≡ isType (entryFrom n w) ⌝ }
+{
+    bytes_typed(n, kind_in(w), class_in(w), dip_in(w), end_in(w))
+}
+
+fn bytes_blank(n: u8, kind: u8, c: u8, d: u8, e: u8) -> bool
+    ensures { λ r. ⌜ r ≡ isBlank (entryOf n kind c d e) ⌝ }
+{
+    (kind == 0) & zeros(c, d, e)
+}
+
+pub fn blank(n: u8, w: u32) -> bool
+    ensures { λ r. ⌜ r ≡ isBlank (entryFrom n w) ⌝ }
+{
+    bytes_blank(n, kind_in(w), class_in(w), dip_in(w), end_in(w))
 }
 
 fn same(c: u8, d: u8) -> bool
@@ -256,13 +296,7 @@ fn end_goes(e: u8) -> bool
 fn pair_fits(c: u8, d: u8, e: u8, c2: u8, d2: u8, e2: u8) -> bool
     ensures { λ r. ⌜ r ≡ pairFits c d e c2 d2 e2 ⌝ }
 {
-    if c != c2 {
-        return false;
-    }
-    if d < d2 {
-        return false;
-    }
-    e2 <= e
+    (c == c2) & (d2 <= d) & (e2 <= e)
 }
 
 fn ref_fits(c: u8, d: u8, e: u8, y: Entry) -> bool
@@ -285,9 +319,16 @@ pub fn entry_fits(x: Entry, y: Entry) -> bool
         Entry::Int => int_fits(y),
         Entry::Top => is_top(y),
         Entry::Ref { class, dip, end } => ref_fits(class, dip, end, y),
-        Entry::Blank => false,
-        Entry::Malformed => false,
+        Entry::Blank => is_blank(y),
+        Entry::Malformed => is_malformed(y),
     }
+}
+
+// The entry that w is fits the one that v is.
+pub fn fits(n: u8, w: u32, v: u32) -> bool
+    ensures { λ r. ⌜ r ≡ entryFits (entryFrom n w) (entryFrom n v) ⌝ }
+{
+    entry_fits(entry_from(n, w), entry_from(n, v))
 }
 
 pub fn may_go(x: Entry) -> bool

@@ -1,83 +1,89 @@
 // Verdict 8 of document 01, a malformed entry or depth, and row 1.
 ghost use mathlib.Core.Path.{_≡_};
 ghost use Rattle.ground.specs.Bytes.{at};
-ghost use Rattle.rows.specs.Rows.{rowFrom, rowAt};
+ghost use Rattle.rows.specs.Rows.{depthAt, rowFrom, rowAt};
 ghost use Rattle.forms.specs.Forms.{varFormed, entryFormed, varsFormed, stackFormed, rowFormed, firstVar, firstVars, firstRow};
 use bundle::Class;
 use instructions::Addr;
 
-fn var_formed(n: u8, r: &[u8], vars: u8, p: u32, i: u8) -> bool
-    ensures { λ o. ⌜ o ≡ varFormed (rowFrom n (now (r .entry)) vars p) i ⌝ }
+fn var_formed(n: u8, k: Class, r: &[u8], p: u32, i: u8) -> bool
+    ensures { λ o. ⌜ o ≡ varFormed (rowFrom n (now (r .entry)) (k .vars) p) i ⌝ }
 {
-    entries::is_type(rows::variable_at(n, r, p, i))
+    entries::typed(n, rows::variable_word(r, p, k.vars, k.limit, i))
 }
 
-fn vars_formed(n: u8, r: &[u8], vars: u8, p: u32) -> bool
-    ensures { λ o. ⌜ o ≡ varsFormed vars (rowFrom n (now (r .entry)) vars p) ⌝ }
+fn vars_formed(n: u8, k: Class, r: &[u8], p: u32) -> bool
+    ensures { λ o. ⌜ o ≡ varsFormed (k .vars) (rowFrom n (now (r .entry)) (k .vars) p) ⌝ }
 {
+    let vars = k.vars;
     for i in 0..vars {
-        if !var_formed(n, r, vars, p, i) {
+        if !var_formed(n, k, r, p, i) {
             return false;
         }
     }
     true
 }
 
-fn entry_formed(n: u8, r: &[u8], vars: u8, p: u32, j: u8) -> bool
-    ensures { λ o. ⌜ o ≡ entryFormed (rowFrom n (now (r .entry)) vars p) j ⌝ }
+// d is the row's depth.
+fn entry_formed(n: u8, k: Class, r: &[u8], p: u32, d: u8, j: u8) -> bool
+    requires { ⌜ d ≡ depthAt (now r) p (k .vars) ⌝ }
+    ensures { λ o. ⌜ o ≡ entryFormed (rowFrom n (now (r .entry)) (k .vars) p) j ⌝ }
 {
-    let x = rows::stack_at(n, r, p, vars, j);
-    if j < rows::depth_at(r, p, vars) {
-        return entries::is_type(x);
+    let w = rows::stack_word(r, p, k.vars, k.limit, j);
+    if j < d {
+        return entries::typed(n, w);
     }
-    entries::is_blank(x)
+    entries::blank(n, w)
 }
 
-fn stack_formed(n: u8, r: &[u8], vars: u8, limit: u8, p: u32) -> bool
-    ensures { λ o. ⌜ o ≡ stackFormed limit (rowFrom n (now (r .entry)) vars p) ⌝ }
+fn stack_formed(n: u8, k: Class, r: &[u8], p: u32) -> bool
+    ensures { λ o. ⌜ o ≡ stackFormed (k .limit) (rowFrom n (now (r .entry)) (k .vars) p) ⌝ }
 {
+    let d = rows::depth_at(r, p, k.vars, k.limit);
+    let limit = k.limit;
     for j in 0..limit {
-        if !entry_formed(n, r, vars, p, j) {
+        if !entry_formed(n, k, r, p, d, j) {
             return false;
         }
     }
     true
 }
 
-fn row_from_formed(n: u8, r: &[u8], vars: u8, limit: u8, p: u32) -> bool
-    ensures { λ o. ⌜ o ≡ rowFormed vars limit (rowFrom n (now (r .entry)) vars p) ⌝ }
+fn row_from_formed(n: u8, k: Class, r: &[u8], p: u32) -> bool
+    ensures { λ o. ⌜ o ≡ rowFormed (k .vars) (k .limit) (rowFrom n (now (r .entry)) (k .vars) p) ⌝ }
 {
-    if limit < rows::depth_at(r, p, vars) {
+    if k.limit < rows::depth_at(r, p, k.vars, k.limit) {
         return false;
     }
-    if !vars_formed(n, r, vars, p) {
+    if !vars_formed(n, k, r, p) {
         return false;
     }
-    stack_formed(n, r, vars, limit, p)
+    stack_formed(n, k, r, p)
 }
 
 // Verdict 8 at address l of the method whose record is r, in a bundle of n classes.
 pub fn row_formed(n: u8, k: Class, r: &[u8], l: Addr) -> bool
     ensures { λ o. ⌜ o ≡ rowFormed (k .vars) (k .limit) (rowAt n k (now (r .entry)) (l .0)) ⌝ }
 {
-    row_from_formed(n, r, k.vars, k.limit, rows::row_start(k, l))
+    row_from_formed(n, k, r, rows::row_start(k, l))
 }
 
-fn first_var(n: u8, r: &[u8], vars: u8, args: u8, p: u32, i: u8) -> bool
-    ensures { λ o. ⌜ o ≡ firstVar args (at (now (r .entry))) (rowFrom n (now (r .entry)) vars p) i ⌝ }
+fn first_var(n: u8, k: Class, r: &[u8], p: u32, i: u8) -> bool
+    ensures { λ o. ⌜ o ≡ firstVar (k .args) (at (now (r .entry))) (rowFrom n (now (r .entry)) (k .vars) p) i ⌝ }
 {
-    let x = rows::variable_at(n, r, p, i);
-    if i < args {
+    let x = rows::variable_at(n, k, r, p, i);
+    if i < k.args {
         return entries::entry_fits(entries::argument_entry(ground::byte(r, i as usize)), x);
     }
     entries::is_top(x)
 }
 
-fn first_vars(n: u8, r: &[u8], vars: u8, args: u8, p: u32) -> bool
-    ensures { λ o. ⌜ o ≡ firstVars vars args (at (now (r .entry))) (rowFrom n (now (r .entry)) vars p) ⌝ }
+fn first_vars(n: u8, k: Class, r: &[u8], p: u32) -> bool
+    ensures { λ o. ⌜ o ≡ firstVars (k .vars) (k .args) (at (now (r .entry))) (rowFrom n (now (r .entry)) (k .vars) p) ⌝ }
 {
+    let vars = k.vars;
     for i in 0..vars {
-        if !first_var(n, r, vars, args, p, i) {
+        if !first_var(n, k, r, p, i) {
             return false;
         }
     }
@@ -89,8 +95,8 @@ pub fn first_row(n: u8, k: Class, r: &[u8]) -> bool
     ensures { λ o. ⌜ o ≡ firstRow (k .vars) (k .args) (at (now (r .entry))) (rowAt n k (now (r .entry)) 1) ⌝ }
 {
     let p = rows::row_start(k, Addr(1));
-    if rows::depth_at(r, p, k.vars) != 0 {
+    if rows::depth_at(r, p, k.vars, k.limit) != 0 {
         return false;
     }
-    first_vars(n, r, k.vars, k.args, p)
+    first_vars(n, k, r, p)
 }

@@ -2,7 +2,7 @@
 ghost use mathlib.Core.Path.{_≡_};
 ghost use Prim.Native.Nat.{_+_, _*_, _-_};
 ghost use lib.ListN.{length};
-ghost use Rattle.ground.specs.Bytes.{at, be16};
+ghost use Rattle.ground.specs.Bytes.{at, be16, quad};
 
 pub fn byte(s: &[u8], i: usize) -> u8
     ensures { λ r. ⌜ r ≡ at (now (s .entry)) i ⌝ }
@@ -22,6 +22,22 @@ pub fn word(s: &[u8], i: usize) -> u16
 {
     if i < s.len() {
         return join(s[i], byte(s, i + 1));
+    }
+    0
+}
+
+pub fn halves(hi: u16, lo: u16) -> u32
+    ensures { λ r. ⌜ r ≡ hi * 65536 + lo ⌝ }
+{
+    (hi as u32) * 65536 + (lo as u32)
+}
+
+// The four-byte number at i, 0 where it is not all there.
+pub fn quad(s: &[u8], i: usize) -> u32
+    ensures { λ r. ⌜ r ≡ quad (now (s .entry)) i ⌝ }
+{
+    if i < back(s, 3) {
+        return halves(join(s[i], s[i + 1]), join(s[i + 2], s[i + 3]));
     }
     0
 }

@@ -1,27 +1,10 @@
 // A row as it stands in the bundle, read entry by entry from a record and numbers. Every read is total; a place is a u32, so that no sum wraps.
 ghost use mathlib.Core.Path.{_≡_};
-ghost use Prim.Native.Nat.{_+_, _≤_};
-ghost use Rattle.rows.specs.Rows.{entryAt, startBehind, rowStart, variableAt, depthAt, stackAt};
+ghost use Prim.Native.Nat.{_+_};
+ghost use Rattle.rows.specs.Rows.{startBehind, rowStart, variableWord, stackWord, depthAt, variableAt, stackAt};
 use bundle::Class;
 use entries::Entry;
 use instructions::Addr;
-
-// The entry of the four bytes at p, in a bundle of n classes.
-fn entry_at(n: u8, r: &[u8], p: usize) -> Entry
-    requires { ⌜ p ≤ 4294970000 ⌝ }
-    ensures { λ x. ⌜ x ≡ entryAt n (now (r .entry)) p ⌝ }
-{
-    if p + 3 < r.len() {
-        return entries::entry_of(n, r[p], r[p + 1], r[p + 2], r[p + 3]);
-    }
-    entries::entry_of(
-        n,
-        ground::byte(r, p),
-        ground::byte(r, p + 1),
-        ground::byte(r, p + 2),
-        ground::byte(r, p + 3),
-    )
-}
 
 // Where a row begins that i rows come before.
 fn start_behind(k: Class, i: u16) -> u32
@@ -47,24 +30,90 @@ pub fn next_start(k: Class, l: Addr) -> u32
     start_behind(k, l.0)
 }
 
-pub fn variable_at(n: u8, r: &[u8], s: u32, i: u8) -> Entry
-    ensures { λ x. ⌜ x ≡ variableAt n (now (r .entry)) s i ⌝ }
+fn read_variable(r: &[u8], s: u32, i: u8) -> u32
+    ensures { λ w. ⌜ w ≡ variableWord (now (r .entry)) s i ⌝ }
 {
-    entry_at(n, r, s as usize + 4 * (i as usize))
+    ground::quad(r, s as usize + 4 * (i as usize))
 }
 
-pub fn depth_at(r: &[u8], s: u32, vars: u8) -> u8
+fn read_depth(r: &[u8], s: u32, vars: u8) -> u8
     ensures { λ d. ⌜ d ≡ depthAt (now (r .entry)) s vars ⌝ }
 {
     ground::byte(r, s as usize + 4 * (vars as usize))
 }
 
-pub fn stack_at(n: u8, r: &[u8], s: u32, vars: u8, j: u8) -> Entry
-    ensures { λ x. ⌜ x ≡ stackAt n (now (r .entry)) s vars j ⌝ }
+fn read_stack(r: &[u8], s: u32, vars: u8, j: u8) -> u32
+    ensures { λ w. ⌜ w ≡ stackWord (now (r .entry)) s vars j ⌝ }
 {
-    entry_at(
-        n,
-        r,
-        s as usize + 4 * (vars as usize) + 1 + 4 * (j as usize),
-    )
+    ground::quad(r, s as usize + 4 * (vars as usize) + 1 + 4 * (j as usize))
+}
+
+// The part of the bundle, where a row begins in it, V and K.
+struct Row<'a> {
+    part: &'a [u8],
+    start: u32,
+    vars: u8,
+    limit: u8,
+}
+
+fn new<'a>(part: &'a [u8], start: u32, vars: u8, limit: u8) -> Row<'a>
+    ensures { λ x. ⌜ (x .part ≡ part .entry) × (x .start ≡ start) × (x .vars ≡ vars) × (x .limit ≡ limit) ⌝ }
+{
+    Row {
+        part,
+        start,
+        vars,
+        limit,
+    }
+}
+
+fn variable<'a>(x: Row<'a>, i: u8) -> u32
+    ensures { λ w. ⌜ w ≡ variableWord (now (x .entry .part)) (x .entry .start) i ⌝ }
+{
+    read_variable(x.part, x.start, i)
+}
+
+fn depth<'a>(x: Row<'a>) -> u8
+    ensures { λ d. ⌜ d ≡ depthAt (now (x .entry .part)) (x .entry .start) (x .entry .vars) ⌝ }
+{
+    read_depth(x.part, x.start, x.vars)
+}
+
+fn stack<'a>(x: Row<'a>, j: u8) -> u32
+    ensures { λ w. ⌜ w ≡ stackWord (now (x .entry .part)) (x .entry .start) (x .entry .vars) j ⌝ }
+{
+    read_stack(x.part, x.start, x.vars, j)
+}
+
+// What follows has plain parameters, so that callers need no proof by hand: first the four bytes of the entry of variable i, in the row that begins at s.
+pub fn variable_word(r: &[u8], s: u32, vars: u8, limit: u8, i: u8) -> u32
+    ensures { λ w. ⌜ w ≡ variableWord (now (r .entry)) s i ⌝ }
+{
+    variable(new(r, s, vars, limit), i)
+}
+
+pub fn depth_at(r: &[u8], s: u32, vars: u8, limit: u8) -> u8
+    ensures { λ d. ⌜ d ≡ depthAt (now (r .entry)) s vars ⌝ }
+{
+    depth(new(r, s, vars, limit))
+}
+
+// The stack entry j, the top being entry 0.
+pub fn stack_word(r: &[u8], s: u32, vars: u8, limit: u8, j: u8) -> u32
+    ensures { λ w. ⌜ w ≡ stackWord (now (r .entry)) s vars j ⌝ }
+{
+    stack(new(r, s, vars, limit), j)
+}
+
+// The same two entries taken apart, in a bundle of n classes.
+pub fn variable_at(n: u8, k: Class, r: &[u8], s: u32, i: u8) -> Entry
+    ensures { λ x. ⌜ x ≡ variableAt n (now (r .entry)) s i ⌝ }
+{
+    entries::entry_from(n, variable_word(r, s, k.vars, k.limit, i))
+}
+
+pub fn stack_at(n: u8, k: Class, r: &[u8], s: u32, j: u8) -> Entry
+    ensures { λ x. ⌜ x ≡ stackAt n (now (r .entry)) s (k .vars) j ⌝ }
+{
+    entries::entry_from(n, stack_word(r, s, k.vars, k.limit, j))
 }

@@ -10,105 +10,112 @@ use entries::Entry;
 use instructions::Addr;
 use instructions::Instruction;
 
-fn inc_rule(n: u8, r: &[u8], vars: u8, p: u32, q: u32) -> bool
-    ensures { λ o. ⌜ o ≡ incRule vars (rowFrom n (now (r .entry)) vars p) (rowFrom n (now (r .entry)) vars q) ⌝ }
+fn inc_rule(n: u8, k: Class, r: &[u8], p: u32, q: u32) -> bool
+    ensures { λ o. ⌜ o ≡ incRule (k .vars) (rowFrom n (now (r .entry)) (k .vars) p) (rowFrom n (now (r .entry)) (k .vars) q) ⌝ }
 {
-    if !entries::is_int(rows::stack_at(n, r, p, vars, 0)) {
+    if !entries::is_int(rows::stack_at(n, k, r, p, 0)) {
         return false;
     }
-    if !entries::int_fits(rows::stack_at(n, r, q, vars, 0)) {
+    if !entries::int_fits(rows::stack_at(n, k, r, q, 0)) {
         return false;
     }
-    matching::rest_fits(n, r, vars, 1, 1, p, q)
+    matching::rest_fits(n, k, r, 1, 1, p, q)
 }
 
-fn pop_rule(n: u8, r: &[u8], vars: u8, p: u32, q: u32) -> bool
-    ensures { λ o. ⌜ o ≡ popRule vars (rowFrom n (now (r .entry)) vars p) (rowFrom n (now (r .entry)) vars q) ⌝ }
+fn pop_rule(n: u8, k: Class, r: &[u8], p: u32, q: u32) -> bool
+    ensures { λ o. ⌜ o ≡ popRule (k .vars) (rowFrom n (now (r .entry)) (k .vars) p) (rowFrom n (now (r .entry)) (k .vars) q) ⌝ }
 {
-    if !entries::may_go(rows::stack_at(n, r, p, vars, 0)) {
+    if !entries::may_go(rows::stack_at(n, k, r, p, 0)) {
         return false;
     }
-    matching::rest_fits(n, r, vars, 1, 0, p, q)
+    matching::rest_fits(n, k, r, 1, 0, p, q)
 }
 
-fn push0_rule(n: u8, r: &[u8], vars: u8, p: u32, q: u32) -> bool
-    ensures { λ o. ⌜ o ≡ push0Rule vars (rowFrom n (now (r .entry)) vars p) (rowFrom n (now (r .entry)) vars q) ⌝ }
+fn push0_rule(n: u8, k: Class, r: &[u8], p: u32, q: u32) -> bool
+    ensures { λ o. ⌜ o ≡ push0Rule (k .vars) (rowFrom n (now (r .entry)) (k .vars) p) (rowFrom n (now (r .entry)) (k .vars) q) ⌝ }
 {
-    if !entries::int_fits(rows::stack_at(n, r, q, vars, 0)) {
+    if !entries::int_fits(rows::stack_at(n, k, r, q, 0)) {
         return false;
     }
-    matching::rest_fits(n, r, vars, 0, 1, p, q)
+    matching::rest_fits(n, k, r, 0, 1, p, q)
 }
 
-fn load_rule(n: u8, r: &[u8], vars: u8, v: u8, p: u32, q: u32) -> bool
-    ensures { λ o. ⌜ o ≡ loadRule vars v (rowFrom n (now (r .entry)) vars p) (rowFrom n (now (r .entry)) vars q) ⌝ }
+fn load_rule(n: u8, k: Class, r: &[u8], v: u8, p: u32, q: u32) -> bool
+    ensures { λ o. ⌜ o ≡ loadRule (k .vars) v (rowFrom n (now (r .entry)) (k .vars) p) (rowFrom n (now (r .entry)) (k .vars) q) ⌝ }
 {
     if !entries::load_splits(
-        rows::variable_at(n, r, p, v),
-        rows::variable_at(n, r, q, v),
-        rows::stack_at(n, r, q, vars, 0),
+        rows::variable_at(n, k, r, p, v),
+        rows::variable_at(n, k, r, q, v),
+        rows::stack_at(n, k, r, q, 0),
     ) {
         return false;
     }
-    matching::rest_fits_but(n, r, vars, v, 0, 1, p, q)
+    matching::rest_fits_but(n, k, r, v, 0, 1, p, q)
 }
 
-fn store_rule(n: u8, r: &[u8], vars: u8, v: u8, p: u32, q: u32) -> bool
-    ensures { λ o. ⌜ o ≡ storeRule vars v (rowFrom n (now (r .entry)) vars p) (rowFrom n (now (r .entry)) vars q) ⌝ }
+fn store_rule(n: u8, k: Class, r: &[u8], v: u8, p: u32, q: u32) -> bool
+    ensures { λ o. ⌜ o ≡ storeRule (k .vars) v (rowFrom n (now (r .entry)) (k .vars) p) (rowFrom n (now (r .entry)) (k .vars) q) ⌝ }
 {
-    if !entries::may_go(rows::variable_at(n, r, p, v)) {
+    if !entries::may_go(rows::variable_at(n, k, r, p, v)) {
         return false;
     }
-    if !entries::entry_fits(
-        rows::stack_at(n, r, p, vars, 0),
-        rows::variable_at(n, r, q, v),
+    if !entries::fits(
+        n,
+        rows::stack_word(r, p, k.vars, k.limit, 0),
+        rows::variable_word(r, q, k.vars, k.limit, v),
     ) {
         return false;
     }
-    matching::rest_fits_but(n, r, vars, v, 1, 0, p, q)
+    matching::rest_fits_but(n, k, r, v, 1, 0, p, q)
 }
 
-fn if_rule(n: u8, r: &[u8], vars: u8, p: u32, q: u32, h: u32) -> bool
-    ensures { λ o. ⌜ o ≡ ifRule vars (rowFrom n (now (r .entry)) vars p) (rowFrom n (now (r .entry)) vars q) (rowFrom n (now (r .entry)) vars h) ⌝ }
+fn if_rule(n: u8, k: Class, r: &[u8], p: u32, q: u32, h: u32) -> bool
+    ensures { λ o. ⌜ o ≡ ifRule (k .vars) (rowFrom n (now (r .entry)) (k .vars) p) (rowFrom n (now (r .entry)) (k .vars) q) (rowFrom n (now (r .entry)) (k .vars) h) ⌝ }
 {
-    if !entries::is_int(rows::stack_at(n, r, p, vars, 0)) {
+    if !entries::is_int(rows::stack_at(n, k, r, p, 0)) {
         return false;
     }
-    if !matching::rest_fits(n, r, vars, 1, 0, p, q) {
+    if !matching::rest_fits(n, k, r, 1, 0, p, q) {
         return false;
     }
-    matching::rest_fits(n, r, vars, 1, 0, p, h)
+    matching::rest_fits(n, k, r, 1, 0, p, h)
 }
 
-fn enter_rule(n: u8, r: &[u8], vars: u8, v: u8, p: u32, q: u32) -> bool
-    ensures { λ o. ⌜ o ≡ enterRule vars v (rowFrom n (now (r .entry)) vars p) (rowFrom n (now (r .entry)) vars q) ⌝ }
+fn enter_rule(n: u8, k: Class, r: &[u8], v: u8, p: u32, q: u32) -> bool
+    ensures { λ o. ⌜ o ≡ enterRule (k .vars) v (rowFrom n (now (r .entry)) (k .vars) p) (rowFrom n (now (r .entry)) (k .vars) q) ⌝ }
 {
-    if !entries::enter_moves(rows::variable_at(n, r, p, v), rows::variable_at(n, r, q, v)) {
+    if !entries::enter_moves(
+        rows::variable_at(n, k, r, p, v),
+        rows::variable_at(n, k, r, q, v),
+    ) {
         return false;
     }
-    matching::rest_fits_but(n, r, vars, v, 0, 0, p, q)
+    matching::rest_fits_but(n, k, r, v, 0, 0, p, q)
 }
 
-fn exit_rule(n: u8, r: &[u8], vars: u8, v: u8, p: u32, q: u32) -> bool
-    ensures { λ o. ⌜ o ≡ exitRule vars v (rowFrom n (now (r .entry)) vars p) (rowFrom n (now (r .entry)) vars q) ⌝ }
+fn exit_rule(n: u8, k: Class, r: &[u8], v: u8, p: u32, q: u32) -> bool
+    ensures { λ o. ⌜ o ≡ exitRule (k .vars) v (rowFrom n (now (r .entry)) (k .vars) p) (rowFrom n (now (r .entry)) (k .vars) q) ⌝ }
 {
-    if !entries::exit_moves(rows::variable_at(n, r, p, v), rows::variable_at(n, r, q, v)) {
+    if !entries::exit_moves(
+        rows::variable_at(n, k, r, p, v),
+        rows::variable_at(n, k, r, q, v),
+    ) {
         return false;
     }
-    matching::rest_fits_but(n, r, vars, v, 0, 0, p, q)
+    matching::rest_fits_but(n, k, r, v, 0, 0, p, q)
 }
 
-fn throw_rule(n: u8, r: &[u8], vars: u8, handler: u16, p: u32, h: u32) -> bool
-    ensures { λ o. ⌜ o ≡ throwRule vars handler (rowFrom n (now (r .entry)) vars p) (rowFrom n (now (r .entry)) vars h) ⌝ }
+fn throw_rule(n: u8, k: Class, r: &[u8], handler: u16, p: u32, h: u32) -> bool
+    ensures { λ o. ⌜ o ≡ throwRule (k .vars) handler (rowFrom n (now (r .entry)) (k .vars) p) (rowFrom n (now (r .entry)) (k .vars) h) ⌝ }
 {
-    if !matching::stack_goes(n, r, vars, p) {
+    if !matching::stack_goes(n, k, r, p) {
         return false;
     }
-    matching::throws(n, r, vars, handler, p, h)
+    matching::throws(n, k, r, handler, p, h)
 }
 
-fn new_rule(n: u8, r: &[u8], vars: u8, c: u8, handler: u16, p: u32, q: u32, h: u32) -> bool
-    ensures { λ o. ⌜ o ≡ newRule vars c handler (rowFrom n (now (r .entry)) vars p) (rowFrom n (now (r .entry)) vars q) (rowFrom n (now (r .entry)) vars h) ⌝ }
+fn new_rule(n: u8, k: Class, r: &[u8], c: u8, handler: u16, p: u32, q: u32, h: u32) -> bool
+    ensures { λ o. ⌜ o ≡ newRule (k .vars) c handler (rowFrom n (now (r .entry)) (k .vars) p) (rowFrom n (now (r .entry)) (k .vars) q) (rowFrom n (now (r .entry)) (k .vars) h) ⌝ }
 {
     if !entries::entry_fits(
         Entry::Ref {
@@ -116,42 +123,42 @@ fn new_rule(n: u8, r: &[u8], vars: u8, c: u8, handler: u16, p: u32, q: u32, h: u
             dip: 0,
             end: 64,
         },
-        rows::stack_at(n, r, q, vars, 0),
+        rows::stack_at(n, k, r, q, 0),
     ) {
         return false;
     }
-    if !matching::rest_fits(n, r, vars, 0, 1, p, q) {
+    if !matching::rest_fits(n, k, r, 0, 1, p, q) {
         return false;
     }
-    throw_rule(n, r, vars, handler, p, h)
+    throw_rule(n, k, r, handler, p, h)
 }
 
 // s is the record of the class that is started: its descriptors come first.
-fn argument_goes(n: u8, r: &[u8], s: &[u8], vars: u8, p: u32, j: u8) -> bool
-    ensures { λ o. ⌜ o ≡ argumentGoes (at (now (s .entry))) (rowFrom n (now (r .entry)) vars p) j ⌝ }
+fn argument_goes(n: u8, k: Class, r: &[u8], s: &[u8], p: u32, j: u8) -> bool
+    ensures { λ o. ⌜ o ≡ argumentGoes (at (now (s .entry))) (rowFrom n (now (r .entry)) (k .vars) p) j ⌝ }
 {
-    let x = rows::stack_at(n, r, p, vars, j);
+    let x = rows::stack_at(n, k, r, p, j);
     if !entries::matches(ground::byte(s, j as usize), x) {
         return false;
     }
     entries::may_go(x)
 }
 
-fn arguments_go(n: u8, r: &[u8], s: &[u8], vars: u8, args: u8, p: u32) -> bool
-    ensures { λ o. ⌜ o ≡ argumentsGo args (at (now (s .entry))) (rowFrom n (now (r .entry)) vars p) ⌝ }
+fn arguments_go(n: u8, k: Class, r: &[u8], s: &[u8], args: u8, p: u32) -> bool
+    ensures { λ o. ⌜ o ≡ argumentsGo args (at (now (s .entry))) (rowFrom n (now (r .entry)) (k .vars) p) ⌝ }
 {
     for j in 0..args {
-        if !argument_goes(n, r, s, vars, p, j) {
+        if !argument_goes(n, k, r, s, p, j) {
             return false;
         }
     }
     true
 }
 
-fn object_goes(n: u8, r: &[u8], vars: u8, c: u8, p: u32, j: u8) -> bool
-    ensures { λ o. ⌜ o ≡ objectGoes c (rowFrom n (now (r .entry)) vars p) j ⌝ }
+fn object_goes(n: u8, k: Class, r: &[u8], c: u8, p: u32, j: u8) -> bool
+    ensures { λ o. ⌜ o ≡ objectGoes c (rowFrom n (now (r .entry)) (k .vars) p) j ⌝ }
 {
-    let x = rows::stack_at(n, r, p, vars, j);
+    let x = rows::stack_at(n, k, r, p, j);
     if !entries::is_of(c, x) {
         return false;
     }
@@ -159,57 +166,56 @@ fn object_goes(n: u8, r: &[u8], vars: u8, c: u8, p: u32, j: u8) -> bool
 }
 
 // A depth is a byte, so no stack holds 256 entries.
-fn start_rule(n: u8, r: &[u8], s: &[u8], vars: u8, args: u8, c: u8, p: u32, q: u32) -> bool
-    ensures { λ o. ⌜ o ≡ startRule vars args (at (now (s .entry))) c (rowFrom n (now (r .entry)) vars p) (rowFrom n (now (r .entry)) vars q) ⌝ }
+fn start_rule(n: u8, k: Class, r: &[u8], s: &[u8], args: u8, c: u8, p: u32, q: u32) -> bool
+    ensures { λ o. ⌜ o ≡ startRule (k .vars) args (at (now (s .entry))) c (rowFrom n (now (r .entry)) (k .vars) p) (rowFrom n (now (r .entry)) (k .vars) q) ⌝ }
 {
     if args == 255 {
         return false;
     }
-    if !arguments_go(n, r, s, vars, args, p) {
+    if !arguments_go(n, k, r, s, args, p) {
         return false;
     }
-    if !object_goes(n, r, vars, c, p, args) {
+    if !object_goes(n, k, r, c, p, args) {
         return false;
     }
-    matching::rest_fits(n, r, vars, args + 1, 0, p, q)
+    matching::rest_fits(n, k, r, args + 1, 0, p, q)
 }
 
-fn return_rule(n: u8, r: &[u8], vars: u8, p: u32) -> bool
-    ensures { λ o. ⌜ o ≡ returnRule vars (rowFrom n (now (r .entry)) vars p) ⌝ }
+fn return_rule(n: u8, k: Class, r: &[u8], p: u32) -> bool
+    ensures { λ o. ⌜ o ≡ returnRule (k .vars) (rowFrom n (now (r .entry)) (k .vars) p) ⌝ }
 {
-    if !matching::stack_goes(n, r, vars, p) {
+    if !matching::stack_goes(n, k, r, p) {
         return false;
     }
-    matching::vars_go(n, r, vars, p)
+    matching::vars_go(n, k, r, p)
 }
 
-fn start_of(b: &[u8], n: u8, r: &[u8], vars: u8, c: u8, p: u32, q: u32) -> bool
-    ensures { λ o. ⌜ o ≡ startRule vars (programOf (now (b .entry)) .method c .args) (programOf (now (b .entry)) .method c .descriptor) c (rowFrom n (now (r .entry)) vars p) (rowFrom n (now (r .entry)) vars q) ⌝ }
+fn start_of(b: &[u8], n: u8, k: Class, r: &[u8], c: u8, p: u32, q: u32) -> bool
+    ensures { λ o. ⌜ o ≡ startRule (k .vars) (programOf (now (b .entry)) .method c .args) (programOf (now (b .entry)) .method c .descriptor) c (rowFrom n (now (r .entry)) (k .vars) p) (rowFrom n (now (r .entry)) (k .vars) q) ⌝ }
 {
-    let k = bundle::class_at(b, c);
-    start_rule(n, r, bundle::part_of(b, k), vars, k.args, c, p, q)
+    let started = bundle::class_at(b, c);
+    start_rule(n, k, r, bundle::part_of(b, started), started.args, c, p, q)
 }
 
 // The rule of the instruction i at address l of the method whose record is r. The bundle is asked only for the class that a start names.
 pub fn rule_of(b: &[u8], n: u8, k: Class, r: &[u8], l: Addr, i: Instruction) -> bool
     ensures { λ o. ⌜ o ≡ ruleOf (programOf (now (b .entry))) (k .vars) (rowAt n k (now (r .entry))) (l .0) i ⌝ }
 {
-    let vars = k.vars;
     let p = rows::row_start(k, l);
     let q = rows::next_start(k, l);
     match i {
-        Instruction::Inc => inc_rule(n, r, vars, p, q),
-        Instruction::Pop => pop_rule(n, r, vars, p, q),
-        Instruction::Push0 => push0_rule(n, r, vars, p, q),
-        Instruction::Load(v) => load_rule(n, r, vars, v.0, p, q),
-        Instruction::Store(v) => store_rule(n, r, vars, v.0, p, q),
-        Instruction::If(a) => if_rule(n, r, vars, p, q, rows::row_start(k, a)),
-        Instruction::Enter(v) => enter_rule(n, r, vars, v.0, p, q),
-        Instruction::Exit(v) => exit_rule(n, r, vars, v.0, p, q),
-        Instruction::New(c, h) => new_rule(n, r, vars, c, h.0, p, q, rows::row_start(k, h)),
-        Instruction::Start(c) => start_of(b, n, r, vars, c, p, q),
-        Instruction::Throw(h) => throw_rule(n, r, vars, h.0, p, rows::row_start(k, h)),
-        Instruction::Return => return_rule(n, r, vars, p),
+        Instruction::Inc => inc_rule(n, k, r, p, q),
+        Instruction::Pop => pop_rule(n, k, r, p, q),
+        Instruction::Push0 => push0_rule(n, k, r, p, q),
+        Instruction::Load(v) => load_rule(n, k, r, v.0, p, q),
+        Instruction::Store(v) => store_rule(n, k, r, v.0, p, q),
+        Instruction::If(a) => if_rule(n, k, r, p, q, rows::row_start(k, a)),
+        Instruction::Enter(v) => enter_rule(n, k, r, v.0, p, q),
+        Instruction::Exit(v) => exit_rule(n, k, r, v.0, p, q),
+        Instruction::New(c, h) => new_rule(n, k, r, c, h.0, p, q, rows::row_start(k, h)),
+        Instruction::Start(c) => start_of(b, n, k, r, c, p, q),
+        Instruction::Throw(h) => throw_rule(n, k, r, h.0, p, rows::row_start(k, h)),
+        Instruction::Return => return_rule(n, k, r, p),
         Instruction::Nothing => false,
     }
 }

@@ -50,8 +50,16 @@ module _ (n : ℕ) (cls : ℕ → ℕ) where
   fits-kind (Ref c d e) (Ref c′ d′ e′) (obj r) h m = (m .0, m .1 ∙ eqb-true c c′ (search and-fst))
   fits-kind (Ref c d e) Blank v h m = tt
   fits-kind (Ref c d e) Malformed v h m = tt
-  fits-kind Blank f v h m = nope h
-  fits-kind Malformed f v h m = nope h
+  fits-kind Blank Int v h m = nope h
+  fits-kind Blank Top v h m = nope h
+  fits-kind Blank (Ref c d e) v h m = nope h
+  fits-kind Blank Blank v h m = tt
+  fits-kind Blank Malformed v h m = tt
+  fits-kind Malformed Int v h m = nope h
+  fits-kind Malformed Top v h m = nope h
+  fits-kind Malformed (Ref c d e) v h m = nope h
+  fits-kind Malformed Blank v h m = tt
+  fits-kind Malformed Malformed v h m = tt
 
   -- a reference goes on as Top or as its own class
   pub goes-kind : (c d e : ℕ) (f : Entry) (v : Value) → goesAs c f ≡ true → Matches n cls (Ref c d e) v → Matches n cls f v

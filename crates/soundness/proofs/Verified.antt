@@ -15,9 +15,9 @@ use Rattle.bundle.specs.Program.{methodOf, methodAt, programOf}
 use Rattle.structure.proofs.Structured.{WellFormed, well-formed}
 use Rattle.entries.specs.declared.Entry.{Entry}
 use Rattle.entries.specs.declared.Entry.the-variants.{Int, Top, Ref, Blank, Malformed}
-use Rattle.entries.specs.Entries.{minEnd, zeros, pairOk, entryOf, endOf, isTop, isType, argumentEntry}
+use Rattle.entries.specs.Entries.{minEnd, zeros, pairOk, entryOf, entryFrom, endOf, isTop, isType, argumentEntry}
 use Rattle.entries.specs.Fits.{entryFits}
-use Rattle.rows.specs.Rows.{Row, entryAt, variableAt, stackAt, rowAt}
+use Rattle.rows.specs.Rows.{Row, variableAt, stackAt, rowAt}
 use Rattle.forms.specs.Forms.{varFormed, entryFormed, varsFormed, stackFormed, rowFormed, firstVar, firstVars, firstRow}
 use Rattle.verifier.specs.Verdict.{verdictOf}
 use Rattle.verifier.specs.Places.{form, first, rule}
@@ -86,7 +86,7 @@ module _ (vars args : ℕ) (descriptor : ℕ → ℕ) (x : Row) (h : firstRow va
 
 -- THEOREM: a bundle with verdict 0 is accepted
 pub accepted : (b : List ℕ) → verdictOf b .number ≡ 0 → Accepted (programOf b) (rowsOf b)
-unfolding programOf methodAt methodOf variableAt stackAt entryAt
+unfolding programOf methodAt methodOf variableAt stackAt entryFrom
 accepted b e =
     let w : WellFormed (programOf b) = well-formed b (agrees-back b e) in
     record {

@@ -65,8 +65,16 @@ fits-weighs (Ref c d e) Top h = (omega arith, leb-true noEnd e h)
 fits-weighs (Ref c d e) (Ref c′ d′ e′) h = (leb-true d′ d (search (and-fst, and-snd)), leb-true e′ e (search and-snd))
 fits-weighs (Ref c d e) Blank h = nope h
 fits-weighs (Ref c d e) Malformed h = nope h
-fits-weighs Blank f h = nope h
-fits-weighs Malformed f h = nope h
+fits-weighs Blank Int h = nope h
+fits-weighs Blank Top h = nope h
+fits-weighs Blank (Ref c d e) h = nope h
+fits-weighs Blank Blank h = omega arith
+fits-weighs Blank Malformed h = nope h
+fits-weighs Malformed Int h = nope h
+fits-weighs Malformed Top h = nope h
+fits-weighs Malformed (Ref c d e) h = nope h
+fits-weighs Malformed Blank h = nope h
+fits-weighs Malformed Malformed h = omega arith
 
 pub fits-weaker : (e f : Entry) → entryFits e f ≡ true → Weaker e f
 fits-weaker e f h =

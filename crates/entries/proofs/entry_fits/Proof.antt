@@ -23,8 +23,14 @@ ref-fits-requires c κs = search needs
 enum-told-3 : tie.Need-enum-told-3
 enum-told-3 c = search needs
 
+is-blank-requires : tie.Need-is-blank-requires
+is-blank-requires c κs = search needs
+
 enum-told-4 : tie.Need-enum-told-4
 enum-told-4 c = search needs
+
+is-malformed-requires : tie.Need-is-malformed-requires
+is-malformed-requires c κs = search needs
 
 returns : tie.Need-returns
 returns c = search needs
@@ -52,7 +58,9 @@ entry-fits-spec =
     enum-known-x
     ref-fits-requires
     enum-told-3
+    is-blank-requires
     enum-told-4
+    is-malformed-requires
     returns
     returns-2
     returns-3

@@ -1,5 +1,5 @@
-use borrow.Author.Tests.{le-leb, lt-leb, eq-eqb, ne-eqb}
 use Rattle.forms.specs.Forms.{firstRow}
+use borrow.Author.Tests.{ne-eqb, eq-eqb}
 use borrow.Author.Needs.{needs}
 use Rattle.forms.proofs.first_row.Statement.{statement}
 use Rattle.forms.proofs.first_row.Tie as tie

@@ -1,3 +1,4 @@
+use borrow.Author.Tests.{lt-leb, le-leb}
 use Rattle.ground.proofs.Bools.{passed, failed}
 use borrow.Author.Tests.{le-leb, lt-leb, eq-eqb, ne-eqb}
 use Rattle.forms.specs.Forms.{rowFormed}
@@ -10,21 +11,21 @@ depth-at-requires c κs = search needs
 
 returns : tie.Need-returns
 unfolding rowFormed
-returns c = rw (rw (c .before .depth-at .ensures) at (lt-leb _ _ (c .if1 .taken)))
+returns c = rw (rw (c .before .before .depth-at .ensures) at (lt-leb _ _ (c .if1 .taken)))
 
 vars-formed-requires : tie.Need-vars-formed-requires
 vars-formed-requires c κs = search needs
 
 returns-2 : tie.Need-returns-2
 unfolding rowFormed
-returns-2 c = rw (rw (c .before .before .before .depth-at .ensures) at (le-leb _ _ (c .before .before .if1 .left)), failed (c .before .vars-formed .ensures) (c .if2 .taken))
+returns-2 c = rw (rw (c .before .before .before .before .depth-at .ensures) at (le-leb _ _ (c .before .before .if1 .left)), failed (c .before .vars-formed .ensures) (c .if2 .taken))
 
 stack-formed-requires : tie.Need-stack-formed-requires
 stack-formed-requires c κs = search needs
 
 returns-3 : tie.Need-returns-3
 unfolding rowFormed
-returns-3 c = rw (rw (c .before .before .before .before .depth-at .ensures) at (le-leb _ _ (c .before .before .before .if1 .left)), passed (c .before .before .vars-formed .ensures) (c .before .if2 .left)) (c .stack-formed .ensures)
+returns-3 c = rw (rw (c .before .before .before .before .before .depth-at .ensures) at (le-leb _ _ (c .before .before .before .if1 .left)), passed (c .before .before .vars-formed .ensures) (c .before .if2 .left)) (c .stack-formed .ensures)
 
 pub row-from-formed-spec : {M : Type 1} → statement M
 row-from-formed-spec =

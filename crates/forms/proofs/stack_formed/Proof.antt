@@ -1,27 +1,29 @@
-use Prim.Native.Nat.{_≤_, _-_}
-use mathlib.Core.Path.{_≡_}
-use mathlib.Core.Bool.{true}
-use Rattle.ground.specs.Bounded.{allBelow}
-use Rattle.ground.proofs.Bounded.{all-zero, all-more, all-left, all-done}
-use Rattle.ground.proofs.Bools.{passed, failed}
 use Rattle.forms.specs.Forms.{entryFormed, stackFormed}
 use Rattle.rows.specs.Rows.{rowFrom}
-use Rattle.ground.specs.Bytes.{at}
+use Rattle.ground.proofs.Bools.{passed, failed}
+use Rattle.ground.proofs.Bounded.{all-zero, all-more, all-left, all-done}
+use Rattle.ground.specs.Bounded.{allBelow}
+use mathlib.Core.Bool.{true}
+use mathlib.Core.Path.{_≡_}
+use Prim.Native.Nat.{_≤_, _-_}
 use borrow.Author.Needs.{needs}
 use Rattle.forms.proofs.stack_formed.Statement.{statement}
 use Rattle.forms.proofs.stack_formed.Tie as tie
 
 abbrev Inv-loop : tie.InvT-loop
-Inv-loop n r vars limit p j₀ j = (j ≤ limit) × (allBelow j (entryFormed (rowFrom n r vars p)) ≡ true)
+Inv-loop n k r p d limit j₀ j = (j ≤ limit) × (allBelow j (entryFormed (rowFrom n r (k .vars) p)) ≡ true)
 
 abbrev μ-loop : tie.MeasureT-loop
-μ-loop n r vars limit p j₀ j = limit - j
+μ-loop n k r p d limit j₀ j = limit - j
+
+depth-at-requires : tie.Need-depth-at-requires Inv-loop μ-loop
+depth-at-requires c κs = search needs
 
 loop-holds : tie.Need-loop-holds Inv-loop μ-loop
 loop-holds c = search (needs, all-zero)
 
 entry-formed-requires : tie.Need-entry-formed-requires Inv-loop μ-loop
-entry-formed-requires c κs = search needs
+entry-formed-requires c κs = c .before .before .depth-at .ensures
 
 returns : tie.Need-returns Inv-loop μ-loop
 unfolding stackFormed
@@ -46,6 +48,7 @@ stack-formed-spec =
     (tie.spec
     Inv-loop
     μ-loop
+    depth-at-requires
     loop-holds
     entry-formed-requires
     returns

@@ -15,15 +15,15 @@ use Rattle.matching.proofs.stack_fits.Statement.{statement}
 use Rattle.matching.proofs.stack_fits.Tie as tie
 
 abbrev Inv-loop : tie.InvT-loop
-Inv-loop n r vars a b p q rest j₀ j = (j ≤ rest) × (allBelow j (restEntryFits a b (rowFrom n r vars p) (rowFrom n r vars q)) ≡ true)
+Inv-loop n k r a b p q rest j₀ j = (j ≤ rest) × (allBelow j (restEntryFits a b (rowFrom n r (k .vars) p) (rowFrom n r (k .vars) q)) ≡ true)
 
 abbrev μ-loop : tie.MeasureT-loop
-μ-loop n r vars a b p q rest j₀ j = rest - j
+μ-loop n k r a b p q rest j₀ j = rest - j
 
 enough : (c : tie.After-depth-at Inv-loop μ-loop) → c .before .before .before .before .args .a ≤ c .depth-at .result
 enough c = rw (c .depth-at .ensures) (depths-enough _ _ _ _ (passed (c .before .before .depths-fit .ensures) (c .before .if1 .left)))
 
-exact : (c : tie.After-depth-at Inv-loop μ-loop) → depthAt (c .before .before .before .before .args .r .now) (c .before .before .before .before .args .q) (c .before .before .before .before .args .vars) + c .before .before .before .before .args .a ≡ c .depth-at .result + c .before .before .before .before .args .b
+exact : (c : tie.After-depth-at Inv-loop μ-loop) → depthAt (c .before .before .before .before .args .r .now) (c .before .before .before .before .args .q) (c .before .before .before .before .args .k .vars) + c .before .before .before .before .args .a ≡ c .depth-at .result + c .before .before .before .before .args .b
 exact c = rw (c .depth-at .ensures) (depths-exact _ _ _ _ (passed (c .before .before .depths-fit .ensures) (c .before .if1 .left)))
 
 depths-fit-requires : tie.Need-depths-fit-requires Inv-loop μ-loop
@@ -45,7 +45,7 @@ loop-holds c = search (needs, all-zero)
 rest-entry-fits-requires : tie.Need-rest-entry-fits-requires Inv-loop μ-loop
 unfolding depthAt
 rest-entry-fits-requires c κs = let d = c .before .before in let a = d .before .before .before .before .args in
-    omega (arith, enough d, exact d, c .before .before .before .before .before .shared-slice-known .given (a .q + 4 * a .vars))
+    omega (arith, enough d, exact d, c .before .before .before .before .before .shared-slice-known .given (a .q + 4 * a .k .vars))
 
 returns-2 : tie.Need-returns-2 Inv-loop μ-loop
 unfolding stackFits

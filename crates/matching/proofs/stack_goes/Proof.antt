@@ -11,10 +11,10 @@ use Rattle.matching.proofs.stack_goes.Statement.{statement}
 use Rattle.matching.proofs.stack_goes.Tie as tie
 
 abbrev Inv-loop : tie.InvT-loop
-Inv-loop n r vars p d j₀ j = (j ≤ d) × (allBelow j (entryGoes (rowFrom n r vars p)) ≡ true)
+Inv-loop n k r p d j₀ j = (j ≤ d) × (allBelow j (entryGoes (rowFrom n r (k .vars) p)) ≡ true)
 
 abbrev μ-loop : tie.MeasureT-loop
-μ-loop n r vars p d j₀ j = d - j
+μ-loop n k r p d j₀ j = d - j
 
 depth-at-requires : tie.Need-depth-at-requires Inv-loop μ-loop
 depth-at-requires c κs = search needs

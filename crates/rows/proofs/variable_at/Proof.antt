@@ -3,18 +3,15 @@ use borrow.Author.Needs.{needs}
 use Rattle.rows.proofs.variable_at.Statement.{statement}
 use Rattle.rows.proofs.variable_at.Tie as tie
 
-mul-entry-at : tie.Need-mul-entry-at
-mul-entry-at c = search needs
+variable-word-requires : tie.Need-variable-word-requires
+variable-word-requires c κs = search needs
 
-add-entry-at : tie.Need-add-entry-at
-add-entry-at c = search needs
-
-entry-at-requires : tie.Need-entry-at-requires
-entry-at-requires c κs = search needs
+entry-from-requires : tie.Need-entry-from-requires
+entry-from-requires c κs = search needs
 
 returns : tie.Need-returns
 unfolding variableAt
-returns c = c .entry-at .ensures
+returns c = rw (← c .before .variable-word .ensures) (c .entry-from .ensures)
 
 pub variable-at-spec : {M : Type 1} → statement M
-variable-at-spec = tie.close (tie.spec mul-entry-at add-entry-at entry-at-requires returns)
+variable-at-spec = tie.close (tie.spec variable-word-requires entry-from-requires returns)

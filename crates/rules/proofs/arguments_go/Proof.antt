@@ -12,10 +12,10 @@ use Rattle.rules.proofs.arguments_go.Statement.{statement}
 use Rattle.rules.proofs.arguments_go.Tie as tie
 
 abbrev Inv-loop : tie.InvT-loop
-Inv-loop n r s vars args p j₀ j = (j ≤ args) × (allBelow j (argumentGoes (at s) (rowFrom n r vars p)) ≡ true)
+Inv-loop n k r s args p j₀ j = (j ≤ args) × (allBelow j (argumentGoes (at s) (rowFrom n r (k .vars) p)) ≡ true)
 
 abbrev μ-loop : tie.MeasureT-loop
-μ-loop n r s vars args p j₀ j = args - j
+μ-loop n k r s args p j₀ j = args - j
 
 loop-holds : tie.Need-loop-holds Inv-loop μ-loop
 loop-holds c = search (needs, all-zero)

@@ -12,7 +12,7 @@ use Rattle.rules.proofs.start_rule.Tie as tie
 returns : tie.Need-returns
 unfolding depthAt
 returns c = let a = c .before .before .before .args in
-    sym (start-too-many _ _ _ _ _ _ (omega (arith, c .before .before .shared-slice-known .given (a .p + 4 * a .vars))))
+    sym (start-too-many _ _ _ _ _ _ (omega (arith, c .before .before .shared-slice-known .given (a .p + 4 * a .k .vars))))
 
 arguments-go-requires : tie.Need-arguments-go-requires
 arguments-go-requires c κs = search needs

@@ -1,0 +1,18 @@
+use Rattle.entries.specs.Entries.{entryFrom}
+use Rattle.entries.proofs.Types.{fits-itself}
+use mathlib.Core.Path.{sym}
+use borrow.Author.Needs.{needs}
+use Rattle.matching.proofs.kept.Statement.{statement}
+use Rattle.matching.proofs.kept.Tie as tie
+
+returns : tie.Need-returns
+returns c = rw (c .if1 .taken) (sym (fits-itself (entryFrom (c .before .args .n) (c .before .args .v))))
+
+fits-requires : tie.Need-fits-requires
+fits-requires c κs = search needs
+
+returns-2 : tie.Need-returns-2
+returns-2 c = search needs
+
+pub kept-spec : {M : Type 1} → statement M
+kept-spec = tie.close (tie.spec returns fits-requires returns-2)
