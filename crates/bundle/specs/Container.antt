@@ -7,8 +7,8 @@ use lib.Dec.{leb}
 use Rattle.ground.specs.Bytes.{at, be16, part}
 use Rattle.ground.specs.Chain.{refuse}
 use Rattle.instructions.specs.declared.Instruction.{Instruction}
-use Rattle.instructions.specs.declared.Instruction.the-variants.{Nothing}
-use Rattle.instructions.specs.Table.{instructionOf}
+use Rattle.instructions.specs.declared.Code.{Code}
+use Rattle.instructions.specs.Table.{decoded}
 use Rattle.bundle.specs.declared.Class.{Class}
 
 -- the last eight bytes are a trailer that points back: directory offset (2), class count (1), ..
@@ -54,10 +54,17 @@ partOf b k = refuse (recordFits b k) [] (part b (k .offset) (k .offset + size k)
 unfoldable pub instructionPlace : Class → ℕ → ℕ
 instructionPlace k l = k .args + 4 * (l - 1)
 
--- the instruction at place p of a record
-unfoldable pub instructionFrom : List ℕ → ℕ → Instruction
-instructionFrom r p = instructionOf (at r p) (at r (p + 1)) (be16 r (p + 2))
+-- the instruction at place p of a record, as it stands
+unfoldable pub codeFrom : List ℕ → ℕ → Code
+codeFrom r p = record { opcode = at r p; operand = at r (p + 1); address = be16 r (p + 2) }
+
+-- four zeros are no instruction
+abbrev pub noCode : Code
+noCode = record { opcode = 0; operand = 0; address = 0 }
 
 -- addresses run from 1 to k; another holds no instruction
+unfoldable pub codeAt : Class → List ℕ → ℕ → Code
+codeAt k r l = refuse (leb 1 l && leb l (k .code)) noCode (codeFrom r (instructionPlace k l))
+
 unfoldable pub instructionAt : Class → List ℕ → ℕ → Instruction
-instructionAt k r l = refuse (leb 1 l && leb l (k .code)) Nothing (instructionFrom r (instructionPlace k l))
+instructionAt k r l = decoded (codeAt k r l)

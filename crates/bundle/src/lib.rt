@@ -3,8 +3,9 @@ ghost use mathlib.Core.Path.{_≡_};
 ghost use Prim.Native.Nat.{_+_, _*_, _<_, _≤_};
 ghost use lib.ListN.{length};
 ghost use Rattle.ground.specs.Bytes.{at};
-ghost use Rattle.bundle.specs.Container.{directoryAt, classes, headAt, classAt, width, size, recordFits, partOf, instructionFrom, instructionPlace, instructionAt};
+ghost use Rattle.bundle.specs.Container.{directoryAt, classes, headAt, classAt, width, size, recordFits, partOf, codeFrom, noCode, instructionPlace, codeAt, instructionAt};
 use instructions::Addr;
+use instructions::Code;
 use instructions::Instruction;
 
 // What the directory says of one class.
@@ -81,15 +82,22 @@ pub fn part_of<'a>(b: &'a [u8], k: Class) -> &'a [u8]
     &b[start..end]
 }
 
-fn instruction_from(r: &[u8], p: usize) -> Instruction
+fn code_from(r: &[u8], p: usize) -> Code
     requires { ⌜ p < 1048576 ⌝ }
-    ensures { λ i. ⌜ i ≡ instructionFrom (now (r .entry)) p ⌝ }
+    ensures { λ x. ⌜ x ≡ codeFrom (now (r .entry)) p ⌝ }
 {
-    instructions::instruction_of(
-        ground::byte(r, p),
-        ground::byte(r, p + 1),
-        ground::word(r, p + 2),
-    )
+    if p + 3 < r.len() {
+        return Code {
+            opcode: r[p],
+            operand: r[p + 1],
+            address: ground::join(r[p + 2], r[p + 3]),
+        };
+    }
+    Code {
+        opcode: ground::byte(r, p),
+        operand: ground::byte(r, p + 1),
+        address: ground::word(r, p + 2),
+    }
 }
 
 fn instruction_place(k: Class, l: Addr) -> usize
@@ -99,14 +107,31 @@ fn instruction_place(k: Class, l: Addr) -> usize
     k.args as usize + 4 * ((l.0 - 1) as usize)
 }
 
+fn no_code() -> Code
+    ensures { λ x. ⌜ x ≡ noCode ⌝ }
+{
+    Code {
+        opcode: 0,
+        operand: 0,
+        address: 0,
+    }
+}
+
+// The four bytes of the instruction at address l.
+pub fn code_at(k: Class, r: &[u8], l: Addr) -> Code
+    ensures { λ x. ⌜ x ≡ codeAt k (now (r .entry)) (l .0) ⌝ }
+{
+    if l.0 < 1 {
+        return no_code();
+    }
+    if k.code < l.0 {
+        return no_code();
+    }
+    code_from(r, instruction_place(k, l))
+}
+
 pub fn instruction_at(k: Class, r: &[u8], l: Addr) -> Instruction
     ensures { λ i. ⌜ i ≡ instructionAt k (now (r .entry)) (l .0) ⌝ }
 {
-    if l.0 < 1 {
-        return Instruction::Nothing;
-    }
-    if k.code < l.0 {
-        return Instruction::Nothing;
-    }
-    instruction_from(r, instruction_place(k, l))
+    instructions::instruction_of(code_at(k, r, l))
 }

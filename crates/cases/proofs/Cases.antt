@@ -6,7 +6,7 @@ use Rattle.ground.specs.Bytes.{quad}
 use Rattle.ground.specs.Bounded.{allBelow}
 use Rattle.ground.specs.Chain.{refuse, orThen, scan}
 use Rattle.instructions.specs.Table.{zeroed, instructionOf, targetOk, lastOk, instructionOk}
-use Rattle.bundle.specs.Container.{headAt, classAt, width, size, recordFits, partOf, instructionPlace, instructionFrom, instructionAt}
+use Rattle.bundle.specs.Container.{headAt, classAt, width, size, recordFits, partOf, codeFrom, instructionPlace, codeAt, instructionAt}
 use Rattle.bundle.specs.Program.{methodOf, methodAt, programOf}
 use Rattle.structure.specs.Conditions.{lengthOk, trailerOk, directoryOk, mainOk, codeOk, limitsOk, descriptorOk, descriptorsOk, addressOk}
 use Rattle.structure.specs.Structure.{headOf, shapeOf, shapeAt, shapesOf, layoutOf, tableAt, tableOf, tableOfClass, tablesOf, structureOf}
@@ -20,7 +20,7 @@ use Rattle.verifier.specs.Verdict.{formAt, formsOf, formsOfClass, formsOfAll, r
 use Rattle.cases.specs.Cases.{Case, cases, caseA, caseB, caseC}
 
 pub cases-hold : map (λ (c : Case). c .given) cases ≡ map (λ (c : Case). c .wanted) cases
-unfolding allBelow quad refuse orThen scan zeroed instructionOf targetOk lastOk instructionOk headAt classAt width size recordFits partOf instructionPlace instructionFrom instructionAt methodOf methodAt programOf lengthOk trailerOk directoryOk mainOk codeOk limitsOk descriptorOk descriptorsOk addressOk headOf shapeOf shapeAt shapesOf layoutOf tableAt tableOf tableOfClass tablesOf structureOf zeros pairOk entryOf entryFrom argumentEntry matches pairFits pairSplits pairEnters pairExits startBehind rowStart variableWord depthAt stackWord variableAt stackAt varsFit othersFit depthsFit stackFits restFits restFitsBut varsGo stackGoes handledBy throws entryFormed varsFormed stackFormed rowFormed firstVar firstVars firstRow incRule popRule push0Rule loadRule storeRule ifRule enterRule exitRule throwRule newRule argumentGoes objectGoes argumentsGo startRule returnRule formAt formsOf formsOfClass formsOfAll ruleVerdict rulesOf rulesOfClass rulesOfAll verdictOf
+unfolding allBelow quad refuse orThen scan zeroed instructionOf targetOk lastOk instructionOk headAt classAt width size recordFits partOf codeFrom instructionPlace codeAt instructionAt methodOf methodAt programOf lengthOk trailerOk directoryOk mainOk codeOk limitsOk descriptorOk descriptorsOk addressOk headOf shapeOf shapeAt shapesOf layoutOf tableAt tableOf tableOfClass tablesOf structureOf zeros pairOk entryOf entryFrom argumentEntry matches pairFits pairSplits pairEnters pairExits startBehind rowStart variableWord depthAt stackWord variableAt stackAt varsFit othersFit depthsFit stackFits restFits restFitsBut varsGo stackGoes handledBy throws entryFormed varsFormed stackFormed rowFormed firstVar firstVars firstRow incRule popRule push0Rule loadRule storeRule ifRule enterRule exitRule throwRule newRule argumentGoes objectGoes argumentsGo startRule returnRule formAt formsOf formsOfClass formsOfAll ruleVerdict rulesOf rulesOfClass rulesOfAll verdictOf
 cases-hold = refl
 
 -- record 117 bytes, directory at 117, whole bundle 133

@@ -5,6 +5,7 @@ use lib.Dec.{leb, ltb, eqb}
 use Rattle.ground.specs.Chain.{refuse}
 use Rattle.instructions.specs.declared.Addr.{Addr}
 use Rattle.instructions.specs.declared.Var.{Var}
+use Rattle.instructions.specs.declared.Code.{Code}
 use Rattle.instructions.specs.declared.Instruction.{Instruction}
 use Rattle.instructions.specs.declared.Instruction.the-variants.{Inc, Pop, Push0, Load, Store, If, Enter, Exit, New, Start, Throw, Return, Nothing}
 
@@ -34,6 +35,9 @@ instructionOf opcode operand address =
     (cond (eqb opcode 11) (zeroed operand (Throw (addr address)))
     (cond (eqb opcode 12) (zeroed operand (zeroed address Return))
     Nothing)))))))))))
+
+abbrev pub decoded : Code → Instruction
+decoded x = instructionOf (x .opcode) (x .operand) (x .address)
 
 -- a variable is below V
 abbrev pub varOk : ℕ → Var → Bool

@@ -1,13 +1,21 @@
 // The instruction table of document 01: an instruction from its bytes, and whether it keeps to the table.
 ghost use mathlib.Core.Path.{_≡_};
 ghost use mathlib.Core.Bool.{_&&_};
-ghost use Rattle.instructions.specs.Table.{zeroed, instructionOf, varOk, classOk, targetOk, handlerOk, tableOk, endsCode, lastOk, instructionOk};
+ghost use lib.Dec.{leb, ltb, eqb};
+ghost use Rattle.instructions.specs.Table.{zeroed, decoded, tableOk, endsCode, lastOk, instructionOk};
 
 // An address of a method, from 1; as a handler, 0 is none.
 pub struct Addr(pub u16);
 
 // The number of a local variable, from 0.
 pub struct Var(pub u8);
+
+// An instruction as it stands in a record: four bytes.
+pub struct Code {
+    pub opcode: u8,
+    pub operand: u8,
+    pub address: u16,
+}
 
 pub enum Instruction {
     Inc,
@@ -50,9 +58,12 @@ fn bare(operand: u8, address: u16, i: Instruction) -> Instruction
     zero_operand(operand, zero_address(address, i))
 }
 
-pub fn instruction_of(opcode: u8, operand: u8, address: u16) -> Instruction
-    ensures { λ r. ⌜ r ≡ instructionOf opcode operand address ⌝ }
+pub fn instruction_of(x: Code) -> Instruction
+    ensures { λ r. ⌜ r ≡ decoded x ⌝ }
 {
+    let operand = x.operand;
+    let address = x.address;
+    let opcode = x.opcode;
     match opcode {
         1 => bare(operand, address, Instruction::Inc),
         2 => bare(operand, address, Instruction::Pop),
@@ -70,59 +81,58 @@ pub fn instruction_of(opcode: u8, operand: u8, address: u16) -> Instruction
     }
 }
 
-fn var_ok(vars: u8, v: Var) -> bool
-    ensures { λ r. ⌜ r ≡ varOk vars v ⌝ }
+// The table is held against the four bytes themselves, so that no instruction is made only to be looked at.
+fn bare_ok(operand: u8, address: u16) -> bool
+    ensures { λ r. ⌜ r ≡ (eqb operand 0 && eqb address 0) ⌝ }
 {
-    v.0 < vars
+    (operand == 0) & (address == 0)
 }
 
-fn class_ok(classes: u8, c: u8) -> bool
-    ensures { λ r. ⌜ r ≡ classOk classes c ⌝ }
+// A variable below V, or a class of the bundle, in the operand.
+fn below_ok(bound: u8, operand: u8, address: u16) -> bool
+    ensures { λ r. ⌜ r ≡ (eqb address 0 && ltb operand bound) ⌝ }
 {
-    c < classes
+    (address == 0) & (operand < bound)
 }
 
-fn target_ok(code: u16, a: Addr) -> bool
-    ensures { λ r. ⌜ r ≡ targetOk code a ⌝ }
+fn target_ok(code: u16, operand: u8, address: u16) -> bool
+    ensures { λ r. ⌜ r ≡ (eqb operand 0 && (leb 1 address && leb address code)) ⌝ }
 {
-    if a.0 < 1 {
-        return false;
-    }
-    a.0 <= code
+    (operand == 0) & ((1 <= address) & (address <= code))
 }
 
-fn handler_ok(code: u16, h: Addr) -> bool
-    ensures { λ r. ⌜ r ≡ handlerOk code h ⌝ }
+fn new_ok(classes: u8, code: u16, operand: u8, address: u16) -> bool
+    ensures { λ r. ⌜ r ≡ (ltb operand classes && leb address code) ⌝ }
 {
-    h.0 <= code
+    (operand < classes) & (address <= code)
 }
 
-fn new_ok(classes: u8, code: u16, c: u8, h: Addr) -> bool
-    ensures { λ r. ⌜ r ≡ (classOk classes c && handlerOk code h) ⌝ }
+fn throw_ok(code: u16, operand: u8, address: u16) -> bool
+    ensures { λ r. ⌜ r ≡ (eqb operand 0 && leb address code) ⌝ }
 {
-    if !class_ok(classes, c) {
-        return false;
-    }
-    handler_ok(code, h)
+    (operand == 0) & (address <= code)
 }
 
-fn table_ok(classes: u8, vars: u8, code: u16, i: Instruction) -> bool
-    ensures { λ r. ⌜ r ≡ tableOk classes vars code i ⌝ }
+fn table_ok(classes: u8, vars: u8, code: u16, x: Code) -> bool
+    ensures { λ r. ⌜ r ≡ tableOk classes vars code (decoded x) ⌝ }
 {
-    match i {
-        Instruction::Inc => true,
-        Instruction::Pop => true,
-        Instruction::Push0 => true,
-        Instruction::Load(v) => var_ok(vars, v),
-        Instruction::Store(v) => var_ok(vars, v),
-        Instruction::If(a) => target_ok(code, a),
-        Instruction::Enter(v) => var_ok(vars, v),
-        Instruction::Exit(v) => var_ok(vars, v),
-        Instruction::New(c, h) => new_ok(classes, code, c, h),
-        Instruction::Start(c) => class_ok(classes, c),
-        Instruction::Throw(h) => handler_ok(code, h),
-        Instruction::Return => true,
-        Instruction::Nothing => false,
+    let operand = x.operand;
+    let address = x.address;
+    let opcode = x.opcode;
+    match opcode {
+        1 => bare_ok(operand, address),
+        2 => bare_ok(operand, address),
+        3 => bare_ok(operand, address),
+        4 => below_ok(vars, operand, address),
+        5 => below_ok(vars, operand, address),
+        6 => target_ok(code, operand, address),
+        7 => below_ok(vars, operand, address),
+        8 => below_ok(vars, operand, address),
+        9 => new_ok(classes, code, operand, address),
+        10 => below_ok(classes, operand, address),
+        11 => throw_ok(code, operand, address),
+        12 => bare_ok(operand, address),
+        _ => false,
     }
 }
 
@@ -146,21 +156,21 @@ fn ends_code(i: Instruction) -> bool
     }
 }
 
-fn last_ok(code: u16, l: Addr, i: Instruction) -> bool
-    ensures { λ r. ⌜ r ≡ lastOk code (l .0) i ⌝ }
+fn last_ok(code: u16, l: Addr, x: Code) -> bool
+    ensures { λ r. ⌜ r ≡ lastOk code (l .0) (decoded x) ⌝ }
 {
     if l.0 != code {
         return true;
     }
-    ends_code(i)
+    ends_code(instruction_of(x))
 }
 
 // Document 01's verdict 7 at address l of a method.
-pub fn instruction_ok(classes: u8, vars: u8, code: u16, l: Addr, i: Instruction) -> bool
-    ensures { λ r. ⌜ r ≡ instructionOk classes vars code (l .0) i ⌝ }
+pub fn instruction_ok(classes: u8, vars: u8, code: u16, l: Addr, x: Code) -> bool
+    ensures { λ r. ⌜ r ≡ instructionOk classes vars code (l .0) (decoded x) ⌝ }
 {
-    if !table_ok(classes, vars, code, i) {
+    if !table_ok(classes, vars, code, x) {
         return false;
     }
-    last_ok(code, l, i)
+    last_ok(code, l, x)
 }

@@ -212,7 +212,7 @@ fn layout(b: &[u8]) -> Verdict
 fn address_ok(n: u8, k: Class, r: &[u8], l: Addr) -> bool
     ensures { λ o. ⌜ o ≡ addressOk n k (now (r .entry)) (l .0) ⌝ }
 {
-    instructions::instruction_ok(n, k.vars, k.code, l, bundle::instruction_at(k, r, l))
+    instructions::instruction_ok(n, k.vars, k.code, l, bundle::code_at(k, r, l))
 }
 
 fn table_at(n: u8, c: u8, k: Class, r: &[u8], i: u16) -> Verdict

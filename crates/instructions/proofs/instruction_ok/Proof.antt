@@ -1,4 +1,4 @@
-use Rattle.ground.proofs.Bools.{failed, passed}
+use Rattle.ground.proofs.Bools.{passed, failed}
 use Rattle.instructions.specs.Table.{instructionOk}
 use borrow.Author.Needs.{needs}
 use Rattle.instructions.proofs.instruction_ok.Statement.{statement}

@@ -1,134 +1,116 @@
+use mathlib.Core.Path.{refl}
+use Rattle.instructions.proofs.Table.{zeroed-ok, bare-ok}
+use Rattle.instructions.proofs.Table.{zeroed-ok}
+use borrow.Author.Tests.{ne-eqb}
+use Rattle.instructions.specs.Table.{instructionOf, targetOk}
 use borrow.Author.Needs.{needs}
 use Rattle.instructions.proofs.table_ok.Statement.{statement}
 use Rattle.instructions.proofs.table_ok.Tie as tie
 
-enum-told : tie.Need-enum-told
-enum-told c = search needs
+bare-ok-requires : tie.Need-bare-ok-requires
+bare-ok-requires c κs = search needs
 
-enum-told-2 : tie.Need-enum-told-2
-enum-told-2 c = search needs
+bare-ok-requires-2 : tie.Need-bare-ok-requires-2
+bare-ok-requires-2 c κs = search needs
 
-enum-told-3 : tie.Need-enum-told-3
-enum-told-3 c = search needs
+bare-ok-requires-3 : tie.Need-bare-ok-requires-3
+bare-ok-requires-3 c κs = search needs
 
-enum-known-i : tie.Need-enum-known-i
-enum-known-i c = search needs
+below-ok-requires : tie.Need-below-ok-requires
+below-ok-requires c κs = search needs
 
-var-ok-requires : tie.Need-var-ok-requires
-var-ok-requires c κs = search needs
-
-enum-known-i-2 : tie.Need-enum-known-i-2
-enum-known-i-2 c = search needs
-
-var-ok-requires-2 : tie.Need-var-ok-requires-2
-var-ok-requires-2 c κs = search needs
-
-enum-known-i-3 : tie.Need-enum-known-i-3
-enum-known-i-3 c = search needs
+below-ok-requires-2 : tie.Need-below-ok-requires-2
+below-ok-requires-2 c κs = search needs
 
 target-ok-requires : tie.Need-target-ok-requires
 target-ok-requires c κs = search needs
 
-enum-known-i-4 : tie.Need-enum-known-i-4
-enum-known-i-4 c = search needs
+below-ok-requires-3 : tie.Need-below-ok-requires-3
+below-ok-requires-3 c κs = search needs
 
-var-ok-requires-3 : tie.Need-var-ok-requires-3
-var-ok-requires-3 c κs = search needs
-
-enum-known-i-5 : tie.Need-enum-known-i-5
-enum-known-i-5 c = search needs
-
-var-ok-requires-4 : tie.Need-var-ok-requires-4
-var-ok-requires-4 c κs = search needs
-
-enum-known-i-6 : tie.Need-enum-known-i-6
-enum-known-i-6 c = search needs
+below-ok-requires-4 : tie.Need-below-ok-requires-4
+below-ok-requires-4 c κs = search needs
 
 new-ok-requires : tie.Need-new-ok-requires
 new-ok-requires c κs = search needs
 
-enum-known-i-7 : tie.Need-enum-known-i-7
-enum-known-i-7 c = search needs
+below-ok-requires-5 : tie.Need-below-ok-requires-5
+below-ok-requires-5 c κs = search needs
 
-class-ok-requires : tie.Need-class-ok-requires
-class-ok-requires c κs = search needs
+throw-ok-requires : tie.Need-throw-ok-requires
+throw-ok-requires c κs = search needs
 
-enum-known-i-8 : tie.Need-enum-known-i-8
-enum-known-i-8 c = search needs
-
-handler-ok-requires : tie.Need-handler-ok-requires
-handler-ok-requires c κs = search needs
-
-enum-told-4 : tie.Need-enum-told-4
-enum-told-4 c = search needs
-
-enum-told-5 : tie.Need-enum-told-5
-enum-told-5 c = search needs
+bare-ok-requires-4 : tie.Need-bare-ok-requires-4
+bare-ok-requires-4 c κs = search needs
 
 returns : tie.Need-returns
-returns c = search needs
+unfolding instructionOf
+returns c = rw (c .before .match .keys1, bare-ok _ _ _ _ _ _ refl) (c .bare-ok .ensures)
 
 returns-2 : tie.Need-returns-2
-returns-2 c = search needs
+unfolding instructionOf
+returns-2 c = rw (c .before .match .keys2, bare-ok _ _ _ _ _ _ refl) (c .bare-ok2 .ensures)
 
 returns-3 : tie.Need-returns-3
-returns-3 c = search needs
+unfolding instructionOf
+returns-3 c = rw (c .before .match .keys3, bare-ok _ _ _ _ _ _ refl) (c .bare-ok3 .ensures)
 
 returns-4 : tie.Need-returns-4
-returns-4 c = rw (c .before .before .i .given .1) (c .var-ok .ensures)
+unfolding instructionOf
+returns-4 c = rw (c .before .match .keys4, zeroed-ok _ _ _ _ _) (c .below-ok .ensures)
 
 returns-5 : tie.Need-returns-5
-returns-5 c = rw (c .before .before .i2 .given .1) (c .var-ok2 .ensures)
+unfolding instructionOf
+returns-5 c = rw (c .before .match .keys5, zeroed-ok _ _ _ _ _) (c .below-ok2 .ensures)
 
 returns-6 : tie.Need-returns-6
-returns-6 c = rw (c .before .before .i3 .given .1) (c .target-ok .ensures)
+unfolding instructionOf targetOk
+returns-6 c = rw (c .before .match .keys6, zeroed-ok _ _ _ _ _) (c .target-ok .ensures)
 
 returns-7 : tie.Need-returns-7
-returns-7 c = rw (c .before .before .i4 .given .1) (c .var-ok3 .ensures)
+unfolding instructionOf
+returns-7 c = rw (c .before .match .keys7, zeroed-ok _ _ _ _ _) (c .below-ok3 .ensures)
 
 returns-8 : tie.Need-returns-8
-returns-8 c = rw (c .before .before .i5 .given .1) (c .var-ok4 .ensures)
+unfolding instructionOf
+returns-8 c = rw (c .before .match .keys8, zeroed-ok _ _ _ _ _) (c .below-ok4 .ensures)
 
 returns-9 : tie.Need-returns-9
-returns-9 c = rw (c .before .before .i6 .given .1) (c .new-ok .ensures)
+unfolding instructionOf
+returns-9 c = rw (c .before .match .keys9) (c .new-ok .ensures)
 
 returns-10 : tie.Need-returns-10
-returns-10 c = rw (c .before .before .i7 .given .1) (c .class-ok .ensures)
+unfolding instructionOf
+returns-10 c = rw (c .before .match .keys10, zeroed-ok _ _ _ _ _) (c .below-ok5 .ensures)
 
 returns-11 : tie.Need-returns-11
-returns-11 c = rw (c .before .before .i8 .given .1) (c .handler-ok .ensures)
+unfolding instructionOf
+returns-11 c = rw (c .before .match .keys11, zeroed-ok _ _ _ _ _) (c .throw-ok .ensures)
 
 returns-12 : tie.Need-returns-12
-returns-12 c = search needs
+unfolding instructionOf
+returns-12 c = rw (c .before .match .keys12, bare-ok _ _ _ _ _ _ refl) (c .bare-ok4 .ensures)
 
 returns-13 : tie.Need-returns-13
-returns-13 c = search needs
+unfolding instructionOf
+returns-13 c = let r = c .match .rest in simp (ne-eqb _ _ (r .1), ne-eqb _ _ (r .0 .1), ne-eqb _ _ (r .0 .0 .1), ne-eqb _ _ (r .0 .0 .0 .1), ne-eqb _ _ (r .0 .0 .0 .0 .1), ne-eqb _ _ (r .0 .0 .0 .0 .0 .1), ne-eqb _ _ (r .0 .0 .0 .0 .0 .0 .1), ne-eqb _ _ (r .0 .0 .0 .0 .0 .0 .0 .1), ne-eqb _ _ (r .0 .0 .0 .0 .0 .0 .0 .0 .1), ne-eqb _ _ (r .0 .0 .0 .0 .0 .0 .0 .0 .0 .1), ne-eqb _ _ (r .0 .0 .0 .0 .0 .0 .0 .0 .0 .0 .1), ne-eqb _ _ (r .0 .0 .0 .0 .0 .0 .0 .0 .0 .0 .0 .1))
 
 pub table-ok-spec : {M : Type 1} → statement M
 table-ok-spec =
     tie.close
     (tie.spec
-    enum-told
-    enum-told-2
-    enum-told-3
-    enum-known-i
-    var-ok-requires
-    enum-known-i-2
-    var-ok-requires-2
-    enum-known-i-3
+    bare-ok-requires
+    bare-ok-requires-2
+    bare-ok-requires-3
+    below-ok-requires
+    below-ok-requires-2
     target-ok-requires
-    enum-known-i-4
-    var-ok-requires-3
-    enum-known-i-5
-    var-ok-requires-4
-    enum-known-i-6
+    below-ok-requires-3
+    below-ok-requires-4
     new-ok-requires
-    enum-known-i-7
-    class-ok-requires
-    enum-known-i-8
-    handler-ok-requires
-    enum-told-4
-    enum-told-5
+    below-ok-requires-5
+    throw-ok-requires
+    bare-ok-requires-4
     returns
     returns-2
     returns-3
