@@ -4,7 +4,7 @@ use mathlib.Core.Bool.{Bool, true, false}
 use Prim.Native.Nat.{ℕ, zero, suc}
 use Rattle.state.specs.declared.State.{State}
 use Rattle.machine.specs.Machine.{freshOf}
-use Rattle.soundness.specs.Sound.{Step, answer, after}
+use Rattle.machine.specs.Runs.{Step, answer, after}
 use Rattle.cases.specs.Cases.{caseA}
 
 -- the answers of a list of steps, one after another

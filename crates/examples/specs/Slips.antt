@@ -11,7 +11,7 @@ use Rattle.entries.specs.Entries.{noEnd, endOf, isInt}
 use Rattle.entries.specs.Fits.{entryFits}
 use Rattle.rows.specs.Rows.{Row, rowAt}
 use Rattle.matching.specs.Matching.{restFits, restFitsBut, stackGoes}
-use Rattle.soundness.specs.Sound.{Step}
+use Rattle.machine.specs.Runs.{Step}
 use Rattle.examples.specs.Runs.{by, failing, main, i, top, int, none, free, owing, row}
 
 -- row l of class 0

@@ -26,6 +26,7 @@ use Rattle.machine.specs.declared.Stepped.{Stepped}
 use Rattle.machine.specs.Answers.{refused, wentTo, wentOn}
 use Rattle.machine.specs.Instructions.{incStep, popStep, push0Step, loadStep, storeStep, ifStep, enterObject, enterStep, exitObject, exitStep, endStep, throwStep, makeStep, newStep, startedBy, startStep}
 use Rattle.machine.specs.Machine.{mainThread, execOf, runOf, stepOf, freshOf}
+use Rattle.machine.specs.Runs.{Step, after, run, reached}
 use Rattle.machine.proofs.Ready.{formed}
 use Rattle.machine.proofs.Writes.{write-or}
 use Rattle.machine.proofs.Changes.{grown}
@@ -196,17 +197,13 @@ fresh-clean b = made .cleans
         unless emptyState (empty-clean (programOf b)) _ _ _ (λ e.
         record { cleans = thread-clean (programOf b) emptyState (empty-clean (programOf b)) 0 mainThread (main-clean (programOf b)) })
 
--- ---- a list of steps, each a thread number and whether an allocation fails
-unfoldable pub ranOf : List ℕ → State → List (ℕ × Bool) → State
-ranOf b s [] = s
-ranOf b s (x ∷ xs) = ranOf b (stepOf b s (x .0) (x .1) .state) xs
-
+-- ---- a list of steps
 -- THEOREM: where every place out of use is integer 0, it is so after any list of steps.
-pub steps-clean : (b : List ℕ) (s : State) (xs : List (ℕ × Bool)) → Clean (programOf b) s → Clean (programOf b) (ranOf b s xs)
-unfolding ranOf
-steps-clean b s [] h = h
-steps-clean b s (x ∷ xs) h = steps-clean b (stepOf b s (x .0) (x .1) .state) xs (step-clean b s (x .0) (x .1) h)
+pub run-clean : (b : List ℕ) (s : State) (xs : List Step) → Clean (programOf b) s → Clean (programOf b) (run b s xs)
+unfolding run
+run-clean b s [] h = h
+run-clean b s (x ∷ xs) h = run-clean b (after b s x) xs (step-clean b s (x .who) (x .fails) h)
 
 -- THEOREM: along any list of steps from the fresh machine every place out of use is integer 0 (after each step of it, since a list cut short is a list).
-pub run-clean : (b : List ℕ) (xs : List (ℕ × Bool)) → Clean (programOf b) (ranOf b (freshOf b .state) xs)
-run-clean b xs = steps-clean b (freshOf b .state) xs (fresh-clean b)
+pub reached-clean : (b : List ℕ) (xs : List Step) → Clean (programOf b) (reached b xs)
+reached-clean b xs = run-clean b (freshOf b .state) xs (fresh-clean b)

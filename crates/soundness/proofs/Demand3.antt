@@ -16,7 +16,8 @@ use Rattle.verifier.proofs.FirstBroken.{agrees-back}
 use Rattle.state.specs.declared.State.{State}
 use Rattle.state.specs.State.{threadAt}
 use Rattle.machine.specs.Machine.{readable, freshOf, stepOf}
-use Rattle.soundness.specs.Sound.{Step, after, run, reached, Sound}
+use Rattle.machine.specs.Runs.{Step, after, run, reached}
+use Rattle.soundness.specs.Sound.{Sound}
 use Rattle.soundness.proofs.Verified.{rowsOf, accepted}
 use Rattle.soundness.proofs.Invariant.{Inv, bounded, state-ok}
 use Rattle.soundness.proofs.Moves.{Good, passes, either}
@@ -24,10 +25,10 @@ use Rattle.soundness.proofs.Fresh.{inv-fresh}
 use Rattle.soundness.proofs.Steps.{run-good, exit-held}
 
 module _ (b : List ℕ) (e : verdictOf b .number ≡ 0) where
-  abbrev P : Program
+  abbrev pub P : Program
   P = programOf b
 
-  abbrev R : ℕ → ℕ → Row
+  abbrev pub R : ℕ → ℕ → Row
   R = rowsOf b
 
   can-read : readable b ≡ true
@@ -56,7 +57,7 @@ module _ (b : List ℕ) (e : verdictOf b .number ≡ 0) where
   unfolding freshOf refuse
   inv-reached xs = inv-run (freshOf b .state) (rw can-read (inv-fresh P R (accepted b e))) xs
 
-  sound : (s : State) → Inv P R s → (x : Step) → Sound b s x
+  pub sound : (s : State) → Inv P R s → (x : Step) → Sound b s x
   sound s inv x =
       record {
         no-fault = step-good s inv (x .who) (x .fails) .quiet;

@@ -16,3 +16,4 @@ pub mod Starts
 pub mod Verified
 pub mod Steps
 pub mod Demand3
+pub mod Calls

@@ -1,8 +1,8 @@
 -- Demand 3: what holds for an accepted bundle, a fresh machine and any list of steps, each a thread and whether an allocation fails.
-use mathlib.Core.List.{List, [], _∷_}
+use mathlib.Core.List.{List}
 use mathlib.Core.Path.{_≡_}
 use mathlib.Core.Logic.{_⊎_, _≢_}
-use mathlib.Core.Bool.{Bool, true, false}
+use mathlib.Core.Bool.{true, false}
 use Prim.Native.Nat.{ℕ, _<_, _≤_}
 use Rattle.instructions.specs.declared.Instruction.the-variants.{Exit}
 use Rattle.instructions.specs.declared.Var.{Var}
@@ -12,27 +12,7 @@ use Rattle.values.specs.Values.{objectOf}
 use Rattle.threads.specs.Threads.{varOf}
 use Rattle.state.specs.declared.State.{State}
 use Rattle.state.specs.State.{threadAt, countOf}
-use Rattle.machine.specs.Machine.{freshOf, stepOf}
-
--- one step of a schedule
-pub record Step : Type 0 where
-  pub who : ℕ
-  pub fails : Bool
-
-abbrev pub answer : List ℕ → State → Step → ℕ
-answer b s x = stepOf b s (x .who) (x .fails) .answer
-
-abbrev pub after : List ℕ → State → Step → State
-after b s x = stepOf b s (x .who) (x .fails) .state
-
--- a list of steps, one after another
-unfoldable pub run : List ℕ → State → List Step → State
-run b s [] = s
-run b s (x ∷ xs) = run b (after b s x) xs
-
--- from the fresh machine of b
-abbrev pub reached : List ℕ → List Step → State
-reached b xs = run b (freshOf b .state) xs
+use Rattle.machine.specs.Runs.{Step, answer, after}
 
 -- thread t's count of object o
 abbrev pub holds : State → ℕ → ℕ → ℕ
