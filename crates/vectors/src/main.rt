@@ -4,16 +4,23 @@ mod build;
 mod bundles;
 mod classes;
 mod container;
-mod forms;
+mod machine_ends;
+mod machine_locks;
+mod machine_stack;
+mod machine_starts;
+mod machine_states;
 mod order;
 mod parts;
 mod records;
 mod report;
+mod row_forms;
 mod rules_locks;
 mod rules_stack;
 mod rules_start;
 mod rules_throws;
+mod runs;
 mod script;
+mod states;
 mod table;
 mod words;
 
@@ -31,6 +38,11 @@ fn main() {
     let t = rules_locks::cases(t, &mut b);
     let t = rules_throws::cases(t, &mut b);
     let t = rules_start::cases(t, &mut b);
-    let t = forms::cases(t, &mut b);
+    let t = row_forms::cases(t, &mut b);
+    let t = machine_stack::cases(t, &mut b);
+    let t = machine_locks::cases(t, &mut b);
+    let t = machine_ends::cases(t, &mut b);
+    let t = machine_starts::cases(t, &mut b);
+    let t = machine_states::cases(t, &mut b);
     report::total(t);
 }
