@@ -14,6 +14,7 @@ mod parts;
 mod records;
 mod report;
 mod row_forms;
+mod rules_limits;
 mod rules_locks;
 mod rules_stack;
 mod rules_start;
@@ -39,6 +40,7 @@ fn main() {
     let t = rules_throws::cases(t, &mut b);
     let t = rules_start::cases(t, &mut b);
     let t = row_forms::cases(t, &mut b);
+    let t = rules_limits::cases(t, &mut b);
     let t = machine_stack::cases(t, &mut b);
     let t = machine_locks::cases(t, &mut b);
     let t = machine_ends::cases(t, &mut b);
