@@ -10,6 +10,7 @@ fn create(t: Tally, b: &mut Buffer) -> Tally {
         b"bench; at 2 new 1; blank; live 0 0 2 0; step 0; live 0 0 3 1; place 0 0 ref 0; objects 1; class 0 1; gives 0: new: object 0 of class 1
 at 3 new 2; step 0; live 0 0 4 2; place 0 1 ref 1; objects 2; class 1 2; gives 0: new: object 1 of class 2
 blank; live 0 0 2 3; places 0 int 5; class 0 99; step 0; live 0 0 3 4; place 0 3 ref 0; objects 1; class 0 1; gives 0: new: depth 3 of 4, over what place and class held
+blank; locals 0 ref 40; local 0 0 int 1; local 0 1 int 2; places 0 ref 50; place 0 0 int 5; live 0 0 2 1; ended 1 9 9 99; locals 1 ref 60; places 1 ref 70; step 0; live 0 0 3 2; place 0 1 ref 0; objects 1; class 0 1; gives 0: new: what is out of use stays
 blank; live 0 0 2 4; places 0 int 5; step 0; gives 12: new: depth 4 of 4
 blank; objects 31; live 0 0 2 0; step 0; live 0 0 3 1; place 0 0 ref 31; objects 32; class 31 1; gives 0: new: object 31
 blank; objects 31; live 0 0 2 4; places 0 ref 30; step 0; gives 12: new: object 31, depth 4 of 4

@@ -36,6 +36,7 @@ count 1 0 2047; step 0; gives 3: enter: thread 1 holds the object at 2,047
 blank; objects 32; live 0 0 2 0; local 0 0 ref 31; live 7 1 1 0; count 7 31 1; step 0; gives 3: enter: thread 7 holds object 31
 blank; objects 32; live 7 0 2 0; local 7 0 ref 31; live 0 1 1 0; count 0 31 1; step 7; gives 3: enter: thread 0 holds object 31
 blank; objects 2; live 0 0 2 0; local 0 0 ref 0; live 1 1 1 0; count 1 1 1; step 0; live 0 0 3 0; count 0 0 1; gives 0: enter: thread 1 holds another object
+blank; objects 1; live 0 0 2 0; local 0 0 ref 0; count 0 0 2047; live 1 1 1 0; count 1 0 1; step 0; gives 18: enter: count 2,047, and thread 1 holds the object too
 blank; objects 2; live 0 0 2 0; local 0 0 ref 0; count 0 1 1; live 1 1 1 0; count 1 0 1; step 0; gives 3: enter: each holds what the other wants
 ",
     )
@@ -80,6 +81,8 @@ blank; objects 1; live 0 0 2 0; count 0 0 1; step 0; gives 13: exit: integer 0, 
 blank; objects 2; live 0 0 2 1; local 0 0 ref 1; local 0 1 ref 0; place 0 0 ref 0; count 0 0 4; count 0 1 4; step 0; live 0 0 3 1; count 0 1 3; gives 0: exit: object 1 of two
 at 2 exit 1; blank; objects 32; live 0 0 2 0; local 0 1 ref 31; count 0 31 1; step 0; live 0 0 3 0; count 0 31 0; gives 0: exit: variable 1, object 31
 blank; objects 32; live 7 0 2 0; local 7 1 ref 31; count 7 31 2; step 7; live 7 0 3 0; count 7 31 1; gives 0: exit: thread 7, object 31
+bench; at 2 enter 0; at 3 exit 0; blank; objects 1; locals 0 ref 40; local 0 0 ref 0; local 0 1 int 2; places 0 ref 50; live 0 0 2 0; ended 1 9 9 99; locals 1 ref 60; places 1 ref 70; step 0; live 0 0 3 0; count 0 0 1; gives 0: enter: what is out of use stays
+step 0; live 0 0 4 0; count 0 0 0; gives 0: exit: what is out of use stays
 ",
     )
 }

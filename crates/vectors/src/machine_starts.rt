@@ -85,7 +85,8 @@ fn reused(t: Tally, b: &mut Buffer) -> Tally {
         b,
         b"bench; at 2 start 1; blank; objects 1; class 0 1; live 0 0 2 1; place 0 0 ref 0; ended 1 9 99 200; locals 1 ref 88; places 1 ref 99; step 0; live 0 0 3 0; place 0 0 int 0; live 1 1 1 0; locals 1 int 0; gives 0: start 1: a number whose thread left junk
 at 2 start 2; blank; objects 2; class 0 1; class 1 2; live 0 0 2 3; place 0 0 ref 1; place 0 1 ref 0; place 0 2 int 7; ended 1 255 65535 255; locals 1 int 5; places 1 int 6; step 0; live 0 0 3 0; places 0 int 0; live 1 2 1 0; locals 1 int 0; local 1 0 int 7; local 1 1 ref 0; gives 0: start 2: a number whose thread left junk
-bench; at 2 start 1; blank; objects 1; class 0 1; live 0 0 2 1; place 0 0 ref 0; live 1 2 4 2; locals 1 int 5; places 1 int 6; step 1; ended 1 0 0 0; local 1 0 int 0; local 1 1 int 0; place 1 0 int 0; place 1 1 int 0; gives 1: start 1: thread 1 ends
+bench; at 2 start 1; blank; objects 1; class 0 1; locals 0 ref 40; local 0 0 int 1; local 0 1 int 2; places 0 ref 50; place 0 0 ref 0; live 0 0 2 1; ended 2 9 9 99; locals 2 ref 60; places 2 ref 70; step 0; live 0 0 3 0; place 0 0 int 0; live 1 1 1 0; gives 0: start 1: what is out of use stays
+blank; objects 1; class 0 1; live 0 0 2 1; place 0 0 ref 0; live 1 2 4 2; locals 1 int 5; places 1 int 6; step 1; ended 1 0 0 0; local 1 0 int 0; local 1 1 int 0; place 1 0 int 0; place 1 1 int 0; gives 1: start 1: thread 1 ends
 step 0; live 0 0 3 0; place 0 0 int 0; live 1 1 1 0; locals 1 int 0; gives 0: start 1: its number is used again, its stack places as they were
 ",
     )

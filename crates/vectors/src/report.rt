@@ -144,11 +144,15 @@ fn same_step(got: Stepped, answer: u32, s: State) -> bool {
 }
 
 fn other_step(got: u8, answer: u32) {
+    if got as u32 == answer {
+        text(b" another state\n");
+        return;
+    }
     text(b" got");
     number(got as u16);
     text(b" wanted");
     number((answer % 256) as u16);
-    text(b" and the state\n");
+    text(b"\n");
 }
 
 // What a step came to: the answer, and the state in every place.

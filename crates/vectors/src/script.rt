@@ -202,7 +202,7 @@ fn after(s: &[u8], at: usize) -> usize
 
 // Runs the lines in order.
 pub(crate) fn run(t: Tally, b: &mut Buffer, s: &[u8]) -> Tally {
-    let blank = state::empty_state();
+    let blank = states::blank();
     let mut p = Progress {
         tally: t,
         length: 0,

@@ -49,6 +49,25 @@ fn value(kind: u32, n: u32) -> Slot {
     values::int_slot(n)
 }
 
+// Written out, and not the state crate's own, so that the fresh machine is held against something else.
+pub(crate) fn blank() -> State {
+    let zero = values::int_slot(0);
+    let t = Thread {
+        live: false,
+        class: 0,
+        at: Addr(0),
+        depth: 0,
+        vars: [zero; 16],
+        stack: [zero; 16],
+    };
+    State {
+        threads: [t; 8],
+        counts: [0u16; 256],
+        objects: 0,
+        classes: [0u8; 32],
+    }
+}
+
 fn with_value(a: [Slot; 16], i: u32, x: Slot) -> [Slot; 16] {
     let mut next = a;
     let k = (i % 16) as usize;
@@ -114,7 +133,7 @@ pub(crate) fn put(s: State, v: [u32; 8]) -> State {
     let i = (v[1] % 8) as u8;
     let kind = v[0];
     match kind {
-        BLANK => state::empty_state(),
+        BLANK => blank(),
         COUNT => state::put_count(s, i, (v[2] % 32) as u8, (v[3] % 65536) as u16),
         OBJECTS => with_objects(s, byte(v[1])),
         CLASS => with_class(s, v[1], byte(v[2])),
