@@ -39,9 +39,9 @@ pub(crate) fn codes(b: &mut Buffer, at: usize, c: Code, n: usize) -> usize {
     p
 }
 
-// V variable entries, the depth and K stack entries, all of them zeros.
+// V variable entries, all of them Top (the four bytes 2, 0, 0, 0), the depth 0 and K stack entries of zeros.
 fn blank_row(b: &mut Buffer, at: usize, vars: u16, limit: u16) -> usize {
-    let p = bytes(b, at, 0, 4 * (vars as usize));
+    let p = codes(b, at, Code(2, 0, 0), vars as usize);
     let p = byte(b, p, 0);
     bytes(b, p, 0, 4 * (limit as usize))
 }

@@ -200,7 +200,8 @@ fn within_row(b: &mut Buffer) -> usize {
     build::trailer(b, p, 5, 1, 29)
 }
 
-// Case A of document 01: 36 bytes of code, its `if` at 16, and 9 rows of 9, 117 bytes at 0; directory at 117; length 133.
+// Case A of document 01 but for its rows: 36 bytes of code, its `if` at 16, and 9 rows of 9, that of address l at 27 + 9l, 117 bytes at 0;
+// directory at 117; length 133.
 fn case_a(b: &mut Buffer) -> usize {
     let p = build::code(b, 0, Code(NEW, 0, 0));
     let p = build::code(b, p, Code(STORE, 0, 0));

@@ -1,6 +1,9 @@
 // Compares one answer with the one wanted, says so on a line of its own, and counts.
 use crate::parts::Buffer;
+use crate::states;
 use libc::STDOUT_FILENO;
+use machine::Stepped;
+use state::State;
 use structure::Verdict;
 
 // How many cases were run, and how many answers were not the ones wanted.
@@ -45,7 +48,7 @@ fn wrong(t: Tally, name: &[u8]) -> Tally {
 }
 
 // The first n bytes, or all of them where there are fewer.
-fn first<'a>(b: &'a [u8], n: usize) -> &'a [u8] {
+pub(crate) fn first<'a>(b: &'a [u8], n: usize) -> &'a [u8] {
     if n <= b.len() {
         return &b[..n];
     }
@@ -130,6 +133,36 @@ pub(crate) fn record(t: Tally, b: &Buffer, n: usize, c: u16, name: &[u8], want: 
     }
     let next = wrong(t, name);
     other_part(got, want);
+    next
+}
+
+fn same_step(got: Stepped, answer: u32, s: State) -> bool {
+    if got.answer as u32 != answer {
+        return false;
+    }
+    states::same(got.state, s)
+}
+
+fn other_step(got: u8, answer: u32) {
+    if got as u32 == answer {
+        text(b" another state\n");
+        return;
+    }
+    text(b" got");
+    number(got as u16);
+    text(b" wanted");
+    number((answer % 256) as u16);
+    text(b"\n");
+}
+
+// What a step came to: the answer, and the state in every place.
+pub(crate) fn stepped(t: Tally, got: Stepped, name: &[u8], answer: u32, s: State) -> Tally {
+    let n = got.answer;
+    if same_step(got, answer, s) {
+        return right(t, name);
+    }
+    let next = wrong(t, name);
+    other_step(n, answer);
     next
 }
 

@@ -53,6 +53,27 @@ byte 247 1; byte 248 255; judge 0 3 0: start 2: the arguments and the descriptor
     )
 }
 
+// Class 2 with V 3, K 3 and a descriptor more in front: class 0, Int, class 1. Its rows stay where they are; their third variables are at 273,
+// 298, 323 and 348.
+fn three_arguments(t: Tally, b: &mut Buffer) -> Tally {
+    script::run(
+        t,
+        b,
+        b"bench; entry 381 246 3 3 3 0 4; code 273 2; code 298 2; code 323 2; code 348 2; judge 0 3 0: start 2: three descriptors
+at 2 start 2; stack 2 0 ref 0 0 0; stack 2 1 int; stack 2 2 ref 1 0 0; stack 2 3 ref 2 0 0; judge 0 3 0: start 2: three arguments
+stack 2 0 int; depth 2 4; judge 9 0 2: start 2: the first of three Int for class 0
+stack 2 0 ref 1 0 0; depth 2 4; judge 9 0 2: start 2: the first of three class 1 for class 0
+stack 2 0 ref 0 3 1; depth 2 4; judge 0 3 0: start 2: the first of three with (3,1)
+stack 2 1 ref 0 0 0; depth 2 4; judge 9 0 2: start 2: the second of three class 0 for Int
+stack 2 1 int; stack 2 2 ref 0 0 0; depth 2 4; judge 9 0 2: start 2: the third of three class 0 for class 1
+stack 2 2 int; depth 2 4; judge 9 0 2: start 2: the third of three Int for class 1
+stack 2 2 ref 1 0 -1; depth 2 4; judge 9 0 2: start 2: the third of three with (0,-1)
+stack 2 2 ref 1 0 0; stack 2 3 ref 1 0 0; judge 9 0 2: start 2: the object below three of class 1
+bench; entry 381 246 3 3 3 0 4; code 273 2; code 298 2; code 323 2; code 348 2; at 2 start 2; stack 2 0 ref 0 0 0; stack 2 1 int; stack 2 2 ref 1 0 0; judge 9 0 2: start 2: three arguments and no object
+",
+    )
+}
+
 fn rest(t: Tally, b: &mut Buffer) -> Tally {
     script::run(
         t,
@@ -69,5 +90,6 @@ bench; at 2 start 2; stack 2 0 int; stack 2 1 ref 1 0 0; stack 2 2 ref 2 0 0; va
 pub(crate) fn cases(t: Tally, b: &mut Buffer) -> Tally {
     let t = no_argument(t, b);
     let t = arguments(t, b);
+    let t = three_arguments(t, b);
     rest(t, b)
 }

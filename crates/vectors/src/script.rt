@@ -1,6 +1,6 @@
 // Runs scripts of cases. A script is lines of steps; `; ` parts the steps of a line, and a line that begins with # is a comment.
 // A step is a word and its numbers, parted by one space each; an opcode's name stands for its number. A step that states what is wanted ends in
-// a colon and the case's name. The buffer and the bundle's length go on from step to step.
+// a colon and the case's name. The buffer, the bundle's length and the machine's state go on from step to step.
 use crate::bench;
 use crate::build;
 use crate::bundles;
@@ -11,7 +11,14 @@ use crate::report;
 use crate::report::Part;
 use crate::report::Tally;
 use crate::report::Want;
+use crate::runs;
+use crate::runs::FRESH;
+use crate::runs::GIVES;
+use crate::states;
+use crate::states::BLANK;
 use crate::words;
+use machine::Stepped;
+use state::State;
 ghost use Prim.Native.Nat.{_+_, _≤_};
 ghost use lib.ListN.{length};
 
@@ -47,22 +54,36 @@ const RECORD: u16 = 40;
 // A case, the verifier's verdict: number, class, address.
 const JUDGE: u16 = 41;
 
-// How far a script has come: the tally, and the length of the bundle.
+// How far a script has come: the tally, the length of the bundle, the state put together, and what the last machine step gave.
 struct Progress {
     tally: Tally,
     length: usize,
+    state: State,
+    came: Stepped,
 }
 
 fn with_length(p: Progress, n: usize) -> Progress {
-    let tally = p.tally;
-    Progress { tally, length: n }
+    let mut next = p;
+    next.length = n;
+    next
 }
 
 fn with_tally(p: Progress, t: Tally) -> Progress {
-    Progress {
-        tally: t,
-        length: p.length,
-    }
+    let mut next = p;
+    next.tally = t;
+    next
+}
+
+fn with_state(p: Progress, s: State) -> Progress {
+    let mut next = p;
+    next.state = s;
+    next
+}
+
+fn with_step(p: Progress, r: Stepped) -> Progress {
+    let mut next = p;
+    next.came = r;
+    next
 }
 
 // A step that changes bytes of the bundle; what comes back is of no use.
@@ -121,6 +142,21 @@ fn act(p: Progress, b: &mut Buffer, v: [u16; 8], name: &[u8]) -> Progress {
     with_tally(p, compare(t, b, p.length, v, name))
 }
 
+// A step of the words of `states` and `runs`.
+fn play(p: Progress, b: &Buffer, v: [u32; 8], name: &[u8]) -> Progress {
+    let kind = v[0];
+    if kind < FRESH {
+        return with_state(p, states::put(p.state, v));
+    }
+    if kind < GIVES {
+        return with_step(p, runs::moved(report::first(b, p.length), p.state, v));
+    }
+    if kind == GIVES {
+        return with_tally(p, report::stepped(p.tally, p.came, name, v[1], p.state));
+    }
+    with_tally(p, report::unknown(p.tally, name))
+}
+
 // What follows a colon and a space.
 fn name_of<'a>(s: &'a [u8], colon: usize) -> &'a [u8] {
     if s.len() < 2 {
@@ -135,7 +171,11 @@ fn name_of<'a>(s: &'a [u8], colon: usize) -> &'a [u8] {
 
 fn step(p: Progress, b: &mut Buffer, s: &[u8]) -> Progress {
     let colon = words::upto(s, 0, b':');
-    act(p, b, words::values(&s[0..colon]), name_of(s, colon))
+    let v = words::values(&s[0..colon]);
+    if v[0] < BLANK {
+        return act(p, b, words::lows(v), name_of(s, colon));
+    }
+    play(p, b, v, name_of(s, colon))
 }
 
 fn line(p: Progress, b: &mut Buffer, s: &[u8]) -> Progress {
@@ -162,9 +202,15 @@ fn after(s: &[u8], at: usize) -> usize
 
 // Runs the lines in order.
 pub(crate) fn run(t: Tally, b: &mut Buffer, s: &[u8]) -> Tally {
+    let blank = states::blank();
     let mut p = Progress {
         tally: t,
         length: 0,
+        state: blank,
+        came: Stepped {
+            answer: 255,
+            state: blank,
+        },
     };
     let mut at = 0;
     while at < s.len() {

@@ -10,6 +10,9 @@ Inv-loop b₀ s p₀ at₀ b p at = at ≤ length s + 1
 abbrev μ-loop : tie.MeasureT-loop
 μ-loop b₀ s p₀ at₀ b p at = length s + 1 - at
 
+blank-requires : tie.Need-blank-requires Inv-loop μ-loop
+blank-requires c κs = search needs
+
 loop-holds : tie.Need-loop-holds Inv-loop μ-loop
 loop-holds c = search needs
 
@@ -49,6 +52,7 @@ run-spec =
     (tie.spec
     Inv-loop
     μ-loop
+    blank-requires
     loop-holds
     upto-requires
     shared-slice-read-if1

@@ -53,6 +53,31 @@ bench; stack 2 0 int; depth 2 2; judge 8 0 2: form: the second of zeros, in use
     )
 }
 
+// The same bytes as in `variables`, on the stack.
+fn stack_bytes(t: Tally, b: &mut Buffer) -> Tally {
+    script::run(
+        t,
+        b,
+        b"bench; stack 2 0 int 1; judge 8 0 2: form: the top Int, second byte 1
+stack 2 0 int 0 1; judge 8 0 2: form: the top Int, third byte 1
+stack 2 0 int 0 0 1; judge 8 0 2: form: the top Int, fourth byte 1
+stack 2 0 top 1; judge 8 0 2: form: the top Top, second byte 1
+stack 2 0 top 0 1; judge 8 0 2: form: the top Top, third byte 1
+stack 2 0 top 0 0 64; judge 8 0 2: form: the top Top, fourth byte 64
+stack 2 0 ref 2 63 0; judge 0 3 0: form: the top of class 2 of 3, dip 63
+stack 2 0 3 0 0 0; judge 8 0 2: form: the top with end byte 0
+stack 2 0 3 0 0 1; judge 9 0 2: form: the top with end byte 1, which return may not let go
+stack 2 0 3 0 0 127; judge 0 3 0: form: the top with end byte 127
+stack 2 0 3 0 0 128; judge 8 0 2: form: the top with end byte 128
+stack 2 0 3 0 0 255; judge 8 0 2: form: the top with end byte 255
+stack 2 0 int; stack 2 1 int 0 0 1; judge 8 0 2: form: the second Int, fourth byte 1
+stack 2 1 3 0 0 0; judge 8 0 2: form: the second with end byte 0
+stack 2 1 3 0 0 128; judge 8 0 2: form: the second with end byte 128
+stack 2 1 3 0 0 127; judge 0 3 0: form: the second with end byte 127
+",
+    )
+}
+
 fn places(t: Tally, b: &mut Buffer) -> Tally {
     script::run(
         t,
@@ -133,6 +158,7 @@ bench; at 14 inc; judge 7 1 4: verify: inc at the last address
 pub(crate) fn cases(t: Tally, b: &mut Buffer) -> Tally {
     let t = variables(t, b);
     let t = stacks(t, b);
+    let t = stack_bytes(t, b);
     let t = places(t, b);
     let t = first_rows(t, b);
     let t = order(t, b);
