@@ -58,7 +58,7 @@ pub fn width(k: Class) -> usize
 }
 
 // The bytes of one record.
-pub fn size(k: Class) -> usize
+fn size(k: Class) -> usize
     ensures { λ r. ⌜ (r ≡ size k) × (r < 268435456) ⌝ }
 {
     k.args as usize + 4 * (k.code as usize) + (k.code as usize) * width(k)

@@ -5,3 +5,4 @@ pub mod Bounded
 pub mod Sums
 pub mod Writes
 pub mod Chain
+pub mod Promises
