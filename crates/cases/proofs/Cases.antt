@@ -1,5 +1,5 @@
 -- The cases marked P, by computation: one list, one statement.
-use mathlib.Core.List.{List, [], _∷_, map}
+use mathlib.Core.List.{[], _∷_, map}
 use lib.ListN.{length}
 use mathlib.Core.Path.{_≡_, refl}
 use Rattle.ground.specs.Bytes.{quad}

@@ -6,7 +6,7 @@ use lib.IntN.{ℤ, pos, negsuc}
 use Rattle.structure.specs.declared.Verdict.{Verdict}
 use Rattle.structure.specs.Verdicts.{verdict}
 use Rattle.entries.specs.declared.Entry.{Entry}
-use Rattle.entries.specs.declared.Entry.the-variants.{Int, Top, Ref, Blank}
+use Rattle.entries.specs.declared.Entry.the-variants.{Int, Ref, Blank}
 use Rattle.rows.specs.Rows.{Row}
 use Rattle.rules.specs.Rules.{loadRule, storeRule, enterRule, exitRule}
 use Rattle.verifier.specs.Verdict.{verdictOf}

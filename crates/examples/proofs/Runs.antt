@@ -1,7 +1,6 @@
 -- Demand 3 is not empty: accepted bundles that run to their end, by computation.
-use mathlib.Core.List.{List, [], _∷_, map}
+use mathlib.Core.List.{[], _∷_, map}
 use mathlib.Core.Path.{_≡_, refl}
-use Prim.Native.Nat.{ℕ}
 use Rattle.ground.specs.Bytes.{quad}
 use Rattle.ground.specs.Bounded.{allBelow, firstBelow, countBelow, setBelow, fillFrom}
 use Rattle.ground.specs.Chain.{refuse, orThen, scan}

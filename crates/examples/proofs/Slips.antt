@@ -1,10 +1,8 @@
 -- No rule is idle: what each slip would let through faults, by computation.
-use mathlib.Core.List.{List, [], _∷_, map}
+use mathlib.Core.List.{[], _∷_, map}
 use mathlib.Core.Path.{_≡_, refl}
-use mathlib.Core.Bool.{Bool, true}
-use Rattle.structure.specs.declared.Verdict.{Verdict}
+use mathlib.Core.Bool.{true}
 use Rattle.structure.specs.Verdicts.{verdict}
-use Prim.Native.Nat.{ℕ}
 use Rattle.ground.specs.Bytes.{quad}
 use Rattle.ground.specs.Bounded.{allBelow, firstBelow, countBelow, setBelow, fillFrom}
 use Rattle.ground.specs.Chain.{refuse, orThen, scan}

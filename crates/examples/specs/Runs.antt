@@ -1,6 +1,6 @@
 -- Accepted bundles, a schedule of each, and what document 01 answers to it.
 use mathlib.Core.List.{List, [], _∷_, _++_}
-use mathlib.Core.Bool.{Bool, true, false}
+use mathlib.Core.Bool.{true, false}
 use Prim.Native.Nat.{ℕ, zero, suc}
 use Rattle.state.specs.declared.State.{State}
 use Rattle.machine.specs.Machine.{freshOf}

@@ -5,14 +5,13 @@ use Prim.Native.Nat.{ℕ, _+_}
 use lib.Dec.{leb}
 use Rattle.ground.specs.Bounded.{allBelow}
 use Rattle.bundle.specs.Container.{classes, classAt, partOf}
-use Rattle.entries.specs.declared.Entry.{Entry}
 use Rattle.entries.specs.declared.Entry.the-variants.{Ref}
 use Rattle.entries.specs.Entries.{noEnd, endOf, isInt}
 use Rattle.entries.specs.Fits.{entryFits}
 use Rattle.rows.specs.Rows.{Row, rowAt}
 use Rattle.matching.specs.Matching.{restFits, restFitsBut, stackGoes}
 use Rattle.machine.specs.Runs.{Step}
-use Rattle.examples.specs.Runs.{by, failing, main, i, top, int, none, free, owing, row}
+use Rattle.examples.specs.Runs.{failing, main, i, top, int, none, free, owing, row}
 
 -- row l of class 0
 abbrev at : List ℕ → ℕ → Row

@@ -6,8 +6,6 @@ use lib.ListN.{length}
 use lib.Dec.{leb}
 use Rattle.ground.specs.Bytes.{at}
 use Rattle.structure.specs.declared.Verdict.{Verdict}
-use Rattle.verifier.specs.Verdict.{verdictOf}
-use Rattle.state.specs.declared.State.{State}
 use Rattle.machine.specs.declared.Stepped.{Stepped}
 use Rattle.machine.specs.Machine.{freshOf, stepOf}
 use Rattle.exports.specs.declared.Running.{Running}

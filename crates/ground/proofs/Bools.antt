@@ -1,6 +1,6 @@
 -- What a conjunction, a disjunction and a flag say. `search (and-fst, and-snd)` takes a long conjunction apart.
 use mathlib.Core.Path.{_≡_, refl, sym, _∙_}
-use mathlib.Core.Bool.{Bool, true, false, _&&_, _||_, not, cond, false≢true, true≢false}
+use mathlib.Core.Bool.{Bool, true, false, _&&_, _||_, not, false≢true, true≢false}
 use borrow.Author.Tests.{not-true, not-false}
 
 pub and-fst : (a b : Bool) → (a && b) ≡ true → a ≡ true

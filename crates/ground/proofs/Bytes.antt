@@ -1,6 +1,6 @@
 -- Bytes past the end, parts, and products of bounded numbers.
 use mathlib.Core.List.{List}
-use mathlib.Core.Path.{_≡_, refl}
+use mathlib.Core.Path.{_≡_}
 use Prim.Native.Nat.{ℕ, _+_, _*_, _-_, _<_, _≤_}
 use lib.ListN.{length, length-take, length-drop, List·getD-eq-default}
 use lib.Seq.{getD-take, getD-drop}

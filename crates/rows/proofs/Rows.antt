@@ -2,10 +2,9 @@
 use mathlib.Core.Path.{_≡_}
 use mathlib.Core.List.{List}
 use Prim.Native.Nat.{ℕ, _+_, _*_, _<_}
-use native.Mathlib.Omega.{arith}
 use lib.ListN.{length}
 use borrow.Author.Tests.{lt-ltb}
-use Rattle.ground.specs.Bytes.{at, be16, quad}
+use Rattle.ground.specs.Bytes.{at, quad}
 use Rattle.entries.specs.Entries.{entryOf, entryFrom}
 use Rattle.entries.proofs.Words.{word-bytes}
 use Rattle.rows.specs.Rows.{variableWord, stackWord, variableAt, stackAt}

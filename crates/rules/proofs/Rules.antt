@@ -1,8 +1,7 @@
 -- A stack never holds 256 entries, since its depth is a byte.
-use mathlib.Core.Path.{_≡_, sym}
+use mathlib.Core.Path.{_≡_}
 use mathlib.Core.Bool.{false, _&&_}
 use Prim.Native.Nat.{ℕ, _+_, _<_}
-use native.Mathlib.Omega.{arith}
 use borrow.Author.Tests.{lt-leb}
 use Rattle.ground.proofs.Bools.{and-false}
 use Rattle.rows.specs.Rows.{Row}

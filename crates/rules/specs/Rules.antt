@@ -1,10 +1,10 @@
 -- Document 01, the rules at each address. x is row l, y is row l+1; V is `vars`.
-use mathlib.Core.Bool.{Bool, true, false, _&&_}
+use mathlib.Core.Bool.{Bool, false, _&&_}
 use Prim.Native.Nat.{ℕ, _+_}
 use Rattle.ground.specs.Bounded.{allBelow}
 use Rattle.instructions.specs.declared.Instruction.{Instruction}
 use Rattle.instructions.specs.declared.Instruction.the-variants.{Inc, Pop, Push0, Load, Store, If, Enter, Exit, New, Start, Throw, Return, Nothing}
-use Rattle.bundle.specs.Program.{Method, Program}
+use Rattle.bundle.specs.Program.{Program}
 use Rattle.entries.specs.declared.Entry.the-variants.{Ref}
 use Rattle.entries.specs.Entries.{noEnd, isInt, isOf, matches}
 use Rattle.entries.specs.Fits.{intFits, entryFits, mayGo, loadSplits, enterMoves, exitMoves}

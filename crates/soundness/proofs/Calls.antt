@@ -1,12 +1,12 @@
 -- COROLLARY of demand 3, in terms of the calls of the library.
 use mathlib.Core.List.{List, [], _∷_}
-use mathlib.Core.Path.{_≡_, sym}
+use mathlib.Core.Path.{_≡_}
 use Prim.Native.Nat.{ℕ}
 use Rattle.structure.specs.declared.Verdict.{Verdict}
 use Rattle.verifier.specs.Verdict.{verdictOf}
 use Rattle.state.specs.declared.State.{State}
 use Rattle.machine.specs.declared.Stepped.{Stepped}
-use Rattle.machine.specs.Machine.{freshOf, stepOf}
+use Rattle.machine.specs.Machine.{freshOf}
 use Rattle.machine.specs.Runs.{Step, run}
 use Rattle.soundness.specs.Calls.{Call, Kept, Called, given, Served}
 use Rattle.soundness.proofs.Invariant.{Inv}

@@ -1,10 +1,10 @@
 -- Document 01, the machine: eight thread numbers, 32 objects, one count for each thread and each object.
-use mathlib.Core.Bool.{Bool, true, false, cond, not, _&&_, _||_}
+use mathlib.Core.Bool.{Bool, cond, not, _||_}
 use mathlib.Core.List.{List}
 use Prim.Native.Nat.{ℕ, _+_, _*_}
-use lib.Dec.{ltb, leb, eqb}
+use lib.Dec.{ltb, eqb}
 use lib.ListN.{getD, set, replicate}
-use Rattle.ground.specs.Bounded.{allBelow, firstBelow, countBelow}
+use Rattle.ground.specs.Bounded.{allBelow, firstBelow}
 use Rattle.threads.specs.declared.Thread.{Thread}
 use Rattle.threads.specs.Threads.{idle}
 use Rattle.state.specs.declared.State.{State}

@@ -1,19 +1,19 @@
 -- What `structureOf` means without its search: 0 exactly where every condition holds; otherwise the first broken place in the document's order.
 use mathlib.Core.List.{List}
-use mathlib.Core.Path.{_≡_, refl, sym, ap, _∙_}
-use mathlib.Core.Logic.{_⊎_, inl, inr, ⊎-elim}
+use mathlib.Core.Path.{_≡_, refl, sym, ap}
+use mathlib.Core.Logic.{_⊎_, inl, inr}
 use mathlib.Core.Bool.{Bool, true, false, not, true≢false}
 use borrow.Author.Tests.{eq-eqb}
 use Rattle.ground.proofs.Bools.{never}
-use Prim.Native.Nat.{ℕ, suc, _+_, _-_, _<_, _≤_}
+use Prim.Native.Nat.{ℕ, _+_, _-_, _<_, _≤_}
 use native.Mathlib.Omega.{arith}
-use Rattle.ground.specs.Chain.{refuse, orThen}
+use Rattle.ground.specs.Chain.{orThen}
 use Rattle.bundle.specs.Container.{classes, classAt, partOf}
 use Rattle.structure.specs.declared.Verdict.{Verdict}
-use Rattle.structure.specs.Verdicts.{verdict, isBad, pass, andThen}
+use Rattle.structure.specs.Verdicts.{verdict, isBad}
 use Rattle.structure.specs.Structure.{headOf, shapeOf, shapeAt, shapesOf, layoutOf, tableAt, tableOf, tableOfClass, tablesOf, structureOf}
-use Rattle.structure.specs.Places.{Place, whole, trailer, directory, limits, extent, descriptors, instruction, Within, holds, drawn, rank, Earlier}
-use Rattle.structure.proofs.Order.{Names, Judges, Before, judges-nothing, judges-same, judges-refuse, judges-then, judges-ascending, judges-classes}
+use Rattle.structure.specs.Places.{Place, whole, trailer, directory, limits, extent, descriptors, instruction, Within, holds, drawn, rank}
+use Rattle.structure.proofs.Order.{Judges, Before, judges-nothing, judges-same, judges-refuse, judges-then, judges-ascending, judges-classes}
 
 bad : (p : Place) → isBad (drawn p) ≡ true
 bad whole = refl

@@ -5,8 +5,8 @@ use mathlib.Core.Bool.{Bool, true, false, cond}
 use Prim.Native.Nat.{ℕ, _<_}
 use native.Mathlib.Omega.{arith}
 use native.Mathlib.Decide.{ℕ-discrete, decLt}
-use Rattle.ground.specs.Chain.{refuse, orThen, scan}
-use Rattle.ground.proofs.Chain.{refused, went-on, scan-each, scan-first}
+use Rattle.ground.specs.Chain.{refuse, orThen}
+use Rattle.ground.proofs.Chain.{scan-each, scan-first}
 use Rattle.ground.proofs.Bools.{never}
 use Rattle.structure.specs.declared.Verdict.{Verdict}
 use Rattle.structure.specs.Verdicts.{isBad, pass, andThen, ascending, Rank, InOrder}

@@ -3,18 +3,17 @@ use mathlib.Core.List.{List}
 use mathlib.Core.Path.{_≡_, refl}
 use mathlib.Core.Logic.{_⊎_, inl, inr}
 use mathlib.Core.Bool.{Bool, true, false, _||_, not}
-use Prim.Native.Nat.{ℕ, _+_, _-_, _≤_, _<_}
+use Prim.Native.Nat.{ℕ, _≤_, _<_}
 use lib.ListN.{length}
-use lib.Dec.{leb, ltb, eqb}
-use native.Mathlib.Omega.{arith}
+use lib.Dec.{eqb}
 use borrow.Author.Tests.{leb-true, ltb-true, eqb-true}
 use Rattle.ground.specs.Bytes.{at}
 use Rattle.ground.proofs.Bools.{and-fst, and-snd, or-right}
 use Rattle.ground.proofs.Bounded.{all-elim}
 use Rattle.instructions.specs.Table.{instructionOk}
 use Rattle.bundle.specs.declared.Class.{Class}
-use Rattle.bundle.specs.Container.{classes, directoryAt, classAt, size, recordFits, partOf}
-use Rattle.bundle.specs.Program.{Method, Program, methodOf, methodAt, programOf}
+use Rattle.bundle.specs.Container.{classes, classAt, recordFits}
+use Rattle.bundle.specs.Program.{Program, methodOf, methodAt, programOf}
 use Rattle.structure.specs.Conditions.{lengthOk, directoryOk, mainOk, codeOk, limitsOk, descriptorOk, descriptorsOk, addressOk}
 use Rattle.structure.specs.Places.{whole, directory, limits, extent, descriptors, instruction}
 use Rattle.structure.specs.Structure.{structureOf}

@@ -1,13 +1,13 @@
 -- Document 01, verdicts in their order, 1 to 7: 1 to 3 first; then 4, 5, 6 class by class; then 7 over all classes and addresses, ascending.
 use mathlib.Core.List.{List, []}
-use mathlib.Core.Bool.{Bool, _&&_}
+use mathlib.Core.Bool.{_&&_}
 use Prim.Native.Nat.{ℕ, _+_}
 use lib.Dec.{ltb, eqb}
 use Rattle.ground.specs.Chain.{refuse}
 use Rattle.bundle.specs.declared.Class.{Class}
 use Rattle.bundle.specs.Container.{classes, classAt, recordFits, partOf}
 use Rattle.structure.specs.declared.Verdict.{Verdict}
-use Rattle.structure.specs.Verdicts.{verdict, isBad, pass, andThen, ascending}
+use Rattle.structure.specs.Verdicts.{verdict, pass, andThen, ascending}
 use Rattle.structure.specs.Conditions.{lengthOk, trailerOk, directoryOk, limitsOk, descriptorsOk, addressOk}
 
 -- 1 to 3

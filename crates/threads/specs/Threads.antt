@@ -1,12 +1,10 @@
 -- Document 01, the machine: one thread, its variables and its stack. Places are counted from the bottom of the stack.
-use mathlib.Core.Bool.{Bool, true, false, cond}
-use mathlib.Core.List.{List, []}
+use mathlib.Core.Bool.{true, false, cond}
+use mathlib.Core.List.{List}
 use Prim.Native.Nat.{ℕ, _+_, _-_}
 use lib.Dec.{ltb}
 use lib.ListN.{getD, set, replicate}
 use Rattle.ground.specs.Bounded.{setBelow, fillFrom}
-use Rattle.instructions.specs.declared.Addr.{Addr}
-use Rattle.instructions.specs.declared.Var.{Var}
 use Rattle.instructions.specs.Table.{addr}
 use Rattle.values.specs.Values.{zeroSlot}
 use Rattle.values.specs.declared.Slot.{Slot}

@@ -1,6 +1,6 @@
 -- What `verdictOf` means without its search: accepted exactly where every rule holds at every place; otherwise the first broken place in the document's order.
 use mathlib.Core.List.{List}
-use mathlib.Core.Path.{_≡_, refl, sym, ap, _∙_}
+use mathlib.Core.Path.{_≡_, refl, sym, ap}
 use mathlib.Core.Logic.{_⊎_, inl, inr}
 use mathlib.Core.Bool.{Bool, true, false, not, true≢false}
 use Prim.Native.Nat.{ℕ, _+_, _-_, _<_, _≤_}
@@ -16,10 +16,10 @@ use Rattle.structure.specs.declared.Verdict.{Verdict}
 use Rattle.structure.specs.Verdicts.{verdict, isBad, InOrder}
 use Rattle.structure.specs.Structure.{structureOf}
 use Rattle.structure.specs.Places as structure
-use Rattle.structure.proofs.Order.{Names, Judges, Before, judges-nothing, judges-same, judges-refuse, judges-then, judges-ascending, judges-classes}
+use Rattle.structure.proofs.Order.{Judges, Before, judges-nothing, judges-same, judges-refuse, judges-then, judges-ascending, judges-classes}
 use Rattle.structure.proofs.FirstBroken.{structure-first}
 use Rattle.verifier.specs.Verdict.{formAt, formsOf, formsOfClass, formsOfAll, ruleVerdict, rulesOf, rulesOfClass, rulesOfAll, verdictOf}
-use Rattle.verifier.specs.Places.{Place, structural, form, first, rule, Address, Within, holds, drawn, rank}
+use Rattle.verifier.specs.Places.{Place, structural, form, first, rule, Within, holds, drawn, rank}
 
 bad : (p : Place) → isBad (drawn p) ≡ true
 bad (structural p) = drawn-bad p

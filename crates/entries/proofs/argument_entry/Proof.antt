@@ -1,6 +1,5 @@
 use borrow.Author.Tests.{eq-eqb, ne-eqb}
 use Rattle.entries.specs.Entries.{argumentEntry}
-use borrow.Author.Needs.{needs}
 use Rattle.entries.proofs.argument_entry.Statement.{statement}
 use Rattle.entries.proofs.argument_entry.Tie as tie
 

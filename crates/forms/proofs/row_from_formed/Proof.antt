@@ -1,6 +1,6 @@
 use borrow.Author.Tests.{lt-leb, le-leb}
 use Rattle.ground.proofs.Bools.{passed, failed}
-use borrow.Author.Tests.{le-leb, lt-leb, eq-eqb, ne-eqb}
+use borrow.Author.Tests.{le-leb, lt-leb}
 use Rattle.forms.specs.Forms.{rowFormed}
 use borrow.Author.Needs.{needs}
 use Rattle.forms.proofs.row_from_formed.Statement.{statement}

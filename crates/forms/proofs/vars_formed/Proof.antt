@@ -6,7 +6,6 @@ use Rattle.ground.proofs.Bounded.{all-zero, all-more, all-left, all-done}
 use Rattle.ground.proofs.Bools.{passed, failed}
 use Rattle.forms.specs.Forms.{varFormed, varsFormed}
 use Rattle.rows.specs.Rows.{rowFrom}
-use Rattle.ground.specs.Bytes.{at}
 use borrow.Author.Needs.{needs}
 use Rattle.forms.proofs.vars_formed.Statement.{statement}
 use Rattle.forms.proofs.vars_formed.Tie as tie

@@ -8,7 +8,7 @@ use mathlib.Core.Bool.{true}
 use Rattle.ground.specs.Bounded.{allBelow}
 use Rattle.ground.proofs.Bounded.{all-zero, all-more, all-left, all-done}
 use Rattle.ground.proofs.Bools.{passed, failed}
-use Rattle.matching.specs.Matching.{depthsFit, restEntryFits, stackFits}
+use Rattle.matching.specs.Matching.{restEntryFits, stackFits}
 use Rattle.rows.specs.Rows.{rowFrom}
 use borrow.Author.Needs.{needs}
 use Rattle.matching.proofs.stack_fits.Statement.{statement}

@@ -1,6 +1,6 @@
 use native.Mathlib.Omega.{arith}
 use mathlib.Core.Path.{_≡_}
-use Prim.Native.Nat.{_-_, _+_}
+use Prim.Native.Nat.{_-_}
 use Rattle.rows.specs.Rows.{rowStart}
 use borrow.Author.Needs.{needs}
 use Rattle.rows.proofs.row_start.Statement.{statement}
