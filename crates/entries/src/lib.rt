@@ -363,25 +363,13 @@ fn goes_as(c: u8, y: Entry) -> bool
     }
 }
 
-fn both(a: bool, b: bool) -> bool
-    ensures { λ r. ⌜ r ≡ (a && b) ⌝ }
-{
-    if a { b } else { false }
-}
-
 fn pair_splits(c: u8, d: u8, e: u8, x: Entry, y: Entry) -> bool
     ensures { λ r. ⌜ r ≡ pairSplits c d e x y ⌝ }
 {
-    if !goes_as(c, x) {
-        return false;
-    }
-    if !goes_as(c, y) {
-        return false;
-    }
-    if (d as u16) < dip_of(x) + dip_of(y) {
-        return false;
-    }
-    end_of(x) + end_of(y) <= (e as u16) + 64
+    goes_as(c, x)
+        & goes_as(c, y)
+        & (dip_of(x) + dip_of(y) <= d as u16)
+        & (end_of(x) + end_of(y) <= (e as u16) + 64)
 }
 
 // load: v goes to the next variable x and to the new top y.
@@ -389,8 +377,8 @@ pub fn load_splits(v: Entry, x: Entry, y: Entry) -> bool
     ensures { λ r. ⌜ r ≡ loadSplits v x y ⌝ }
 {
     match v {
-        Entry::Int => both(int_fits(x), int_fits(y)),
-        Entry::Top => both(is_top(x), is_top(y)),
+        Entry::Int => int_fits(x) & int_fits(y),
+        Entry::Top => is_top(x) & is_top(y),
         Entry::Ref { class, dip, end } => pair_splits(class, dip, end, x, y),
         Entry::Blank => false,
         Entry::Malformed => false,
@@ -400,13 +388,7 @@ pub fn load_splits(v: Entry, x: Entry, y: Entry) -> bool
 fn pair_enters(c: u8, d: u8, e: u8, y: Entry) -> bool
     ensures { λ r. ⌜ r ≡ pairEnters c d e y ⌝ }
 {
-    if !goes_as(c, y) {
-        return false;
-    }
-    if (d as u16) + 1 < dip_of(y) {
-        return false;
-    }
-    end_of(y) + 1 <= e as u16
+    goes_as(c, y) & (dip_of(y) <= (d as u16) + 1) & (end_of(y) + 1 <= e as u16)
 }
 
 // monitorenter: x becomes y.
@@ -425,13 +407,7 @@ pub fn enter_moves(x: Entry, y: Entry) -> bool
 fn pair_exits(c: u8, d: u8, e: u8, y: Entry) -> bool
     ensures { λ r. ⌜ r ≡ pairExits c d e y ⌝ }
 {
-    if !goes_as(c, y) {
-        return false;
-    }
-    if (d as u16) < dip_of(y) + 1 {
-        return false;
-    }
-    end_of(y) <= (e as u16) + 1
+    goes_as(c, y) & (dip_of(y) + 1 <= d as u16) & (end_of(y) <= (e as u16) + 1)
 }
 
 // monitorexit: x becomes y.

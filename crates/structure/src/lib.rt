@@ -18,38 +18,25 @@ pub struct Verdict {
 fn length_ok(b: &[u8]) -> bool
     ensures { λ r. ⌜ r ≡ lengthOk (now (b .entry)) ⌝ }
 {
-    if b.len() < 8 {
-        return false;
-    }
-    b.len() <= 65535
+    (8 <= b.len()) & (b.len() <= 65535)
 }
 
 fn trailer_ok(b: &[u8]) -> bool
     ensures { λ r. ⌜ r ≡ trailerOk (now (b .entry)) ⌝ }
 {
-    if ground::byte(b, ground::back(b, 2)) != 76 {
-        return false;
-    }
-    if ground::byte(b, ground::back(b, 1)) != 75 {
-        return false;
-    }
-    if ground::byte(b, ground::back(b, 5)) != 0 {
-        return false;
-    }
-    ground::word(b, ground::back(b, 4)) as usize == b.len()
+    (ground::byte(b, ground::back(b, 2)) == 76)
+        & (ground::byte(b, ground::back(b, 1)) == 75)
+        & (ground::byte(b, ground::back(b, 5)) == 0)
+        & (ground::word(b, ground::back(b, 4)) as usize == b.len())
 }
 
 fn directory_ok(b: &[u8]) -> bool
     ensures { λ r. ⌜ r ≡ directoryOk (now (b .entry)) ⌝ }
 {
     let n = bundle::classes(b);
-    if n < 1 {
-        return false;
-    }
-    if 8 < n {
-        return false;
-    }
-    bundle::directory_at(b) as usize + 8 * (n as usize) <= ground::back(b, 8)
+    (1 <= n)
+        & (n <= 8)
+        & (bundle::directory_at(b) as usize + 8 * (n as usize) <= ground::back(b, 8))
 }
 
 fn head(b: &[u8]) -> Verdict
@@ -86,50 +73,31 @@ fn head(b: &[u8]) -> Verdict
 fn main_ok(c: u8, k: Class) -> bool
     ensures { λ r. ⌜ r ≡ mainOk c k ⌝ }
 {
-    if c != 0 {
-        return true;
-    }
-    k.args == 0
+    (c != 0) | (k.args == 0)
 }
 
 fn code_ok(k: Class) -> bool
     ensures { λ r. ⌜ r ≡ codeOk k ⌝ }
 {
-    if k.code < 1 {
-        return false;
-    }
-    k.code <= 256
+    (1 <= k.code) & (k.code <= 256)
 }
 
 fn limits_ok(c: u8, k: Class) -> bool
     ensures { λ r. ⌜ r ≡ limitsOk c k ⌝ }
 {
-    if k.vars < k.args {
-        return false;
-    }
-    if 16 < k.vars {
-        return false;
-    }
-    if 16 < k.limit {
-        return false;
-    }
-    if k.zero != 0 {
-        return false;
-    }
-    if !main_ok(c, k) {
-        return false;
-    }
-    code_ok(k)
+    (k.args <= k.vars)
+        & (k.vars <= 16)
+        & (k.limit <= 16)
+        & (k.zero == 0)
+        & main_ok(c, k)
+        & code_ok(k)
 }
 
 fn descriptor_ok(n: u8, r: &[u8], i: usize) -> bool
     ensures { λ o. ⌜ o ≡ descriptorOk n (now (r .entry)) i ⌝ }
 {
     let d = ground::byte(r, i);
-    if d == 255 {
-        return true;
-    }
-    d < n
+    (d == 255) | (d < n)
 }
 
 fn descriptors_ok(n: u8, k: Class, r: &[u8]) -> bool

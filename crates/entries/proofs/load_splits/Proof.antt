@@ -11,9 +11,6 @@ int-fits-requires c κs = search needs
 int-fits-requires-2 : tie.Need-int-fits-requires-2
 int-fits-requires-2 c κs = search needs
 
-both-requires : tie.Need-both-requires
-both-requires c κs = search needs
-
 enum-told-2 : tie.Need-enum-told-2
 enum-told-2 c = search needs
 
@@ -22,9 +19,6 @@ is-top-requires c κs = search needs
 
 is-top-requires-2 : tie.Need-is-top-requires-2
 is-top-requires-2 c κs = search needs
-
-both-requires-2 : tie.Need-both-requires-2
-both-requires-2 c κs = search needs
 
 enum-known-v : tie.Need-enum-known-v
 enum-known-v c = search needs
@@ -39,10 +33,10 @@ enum-told-4 : tie.Need-enum-told-4
 enum-told-4 c = search needs
 
 returns : tie.Need-returns
-returns c = rw (c .before .before .before .enum-told .given .1, ← c .before .before .int-fits .ensures, ← c .before .int-fits2 .ensures) (c .both .ensures)
+returns c = rw (c .before .before .enum-told .given .1, c .before .int-fits .ensures, c .int-fits2 .ensures)
 
 returns-2 : tie.Need-returns-2
-returns-2 c = rw (c .before .before .before .enum-told2 .given .1, ← c .before .before .is-top .ensures, ← c .before .is-top2 .ensures) (c .both2 .ensures)
+returns-2 c = rw (c .before .before .enum-told2 .given .1, c .before .is-top .ensures, c .is-top2 .ensures)
 
 returns-3 : tie.Need-returns-3
 returns-3 c = rw (c .before .before .v .given .1) (c .pair-splits .ensures)
@@ -60,11 +54,9 @@ load-splits-spec =
     enum-told
     int-fits-requires
     int-fits-requires-2
-    both-requires
     enum-told-2
     is-top-requires
     is-top-requires-2
-    both-requires-2
     enum-known-v
     pair-splits-requires
     enum-told-3

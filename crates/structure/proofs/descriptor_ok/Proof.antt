@@ -1,4 +1,3 @@
-use Rattle.ground.proofs.Tests.{tests}
 use Rattle.structure.specs.Conditions.{descriptorOk}
 use borrow.Author.Needs.{needs}
 use Rattle.structure.proofs.descriptor_ok.Statement.{statement}
@@ -9,11 +8,7 @@ byte-requires c κs = search needs
 
 returns : tie.Need-returns
 unfolding descriptorOk
-returns c = rw (← c .before .byte .ensures) (search (needs, tests))
-
-returns-2 : tie.Need-returns-2
-unfolding descriptorOk
-returns-2 c = rw (← c .before .byte .ensures) (search (needs, tests))
+returns c = rw (c .byte .ensures)
 
 pub descriptor-ok-spec : {M : Type 1} → statement M
-descriptor-ok-spec = tie.close (tie.spec byte-requires returns returns-2)
+descriptor-ok-spec = tie.close (tie.spec byte-requires returns)

@@ -1,4 +1,3 @@
-use Rattle.ground.proofs.Tests.{tests}
 use Rattle.structure.specs.Conditions.{directoryOk}
 use borrow.Author.Needs.{needs}
 use Rattle.structure.proofs.directory_ok.Statement.{statement}
@@ -6,14 +5,6 @@ use Rattle.structure.proofs.directory_ok.Tie as tie
 
 classes-requires : tie.Need-classes-requires
 classes-requires c κs = search needs
-
-returns : tie.Need-returns
-unfolding directoryOk
-returns c = rw (← c .before .classes .ensures) (search (needs, tests))
-
-returns-2 : tie.Need-returns-2
-unfolding directoryOk
-returns-2 c = rw (← c .before .before .classes .ensures) (search (needs, tests))
 
 directory-at-requires : tie.Need-directory-at-requires
 directory-at-requires c κs = search needs
@@ -33,21 +24,19 @@ add-result c = search needs
 back-requires : tie.Need-back-requires
 back-requires c κs = search needs
 
-returns-3 : tie.Need-returns-3
+returns : tie.Need-returns
 unfolding directoryOk
-returns-3 c = rw (← c .before .before .before .before .classes .ensures, ← c .before .directory-at .ensures, ← c .back .ensures) (search (needs, tests))
+returns c = rw (c .before .before .classes .ensures, c .before .directory-at .ensures, c .back .ensures)
 
 pub directory-ok-spec : {M : Type 1} → statement M
 directory-ok-spec =
     tie.close
     (tie.spec
     classes-requires
-    returns
-    returns-2
     directory-at-requires
     cast-result
     cast-result-2
     mul-result
     add-result
     back-requires
-    returns-3)
+    returns)

@@ -1,4 +1,4 @@
-use Rattle.ground.proofs.Tests.{tests}
+use mathlib.Core.Path.{refl}
 use Rattle.structure.specs.Conditions.{lengthOk}
 use borrow.Author.Needs.{needs}
 use Rattle.structure.proofs.length_ok.Statement.{statement}
@@ -6,11 +6,7 @@ use Rattle.structure.proofs.length_ok.Tie as tie
 
 returns : tie.Need-returns
 unfolding lengthOk
-returns c = search (needs, tests)
-
-returns-2 : tie.Need-returns-2
-unfolding lengthOk
-returns-2 c = search (needs, tests)
+returns c = refl
 
 pub length-ok-spec : {M : Type 1} → statement M
-length-ok-spec = tie.close (tie.spec returns returns-2)
+length-ok-spec = tie.close (tie.spec returns)
