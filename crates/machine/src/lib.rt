@@ -108,7 +108,8 @@ pub fn step(b: &[u8], s: State, thread: u8, fails: bool) -> Stepped
             state: s,
         };
     }
-    let t = state::thread(s, thread);
+    let k = thread as usize;
+    let t = s.threads[k];
     if !t.live {
         return Stepped {
             answer: 5,
