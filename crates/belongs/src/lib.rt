@@ -2,7 +2,7 @@
 ghost use mathlib.Core.Path.{_≡_};
 ghost use mathlib.Core.Bool.{cond};
 ghost use Rattle.bundle.specs.Program.{programOf};
-ghost use Rattle.belongs.specs.Belongs.{placesRefer, placedOk, liveOk, threadOk, threadsOk, objectsOk, countOk, threadCountsOk, countsOk, holdsAt, soleHolder, soleHolders, stateOk};
+ghost use Rattle.belongs.specs.Belongs.{placesRefer, placedOk, liveOk, threadOk, objectsOk, countOk, threadCountsOk, holdsAt, soleHolder, soleHolders, stateOk};
 use bundle::Class;
 use state::State;
 use threads::Thread;
@@ -65,21 +65,6 @@ fn thread_ok(b: &[u8], objects: u8, t: Thread) -> bool
     live_ok(b, objects, t)
 }
 
-fn threads_ok(b: &[u8], s: State) -> bool
-    ensures { λ r. ⌜ r ≡ threadsOk (programOf (now (b .entry))) s ⌝ }
-{
-    let mut i: u8 = 0;
-    while i < 8 {
-        let k = i as usize;
-        let t = s.threads[k];
-        if !thread_ok(b, s.objects, t) {
-            return false;
-        }
-        i += 1;
-    }
-    true
-}
-
 fn objects_ok(b: &[u8], objects: u8, classes: &[u8]) -> bool
     ensures { λ r. ⌜ r ≡ objectsOk (programOf (now (b .entry))) objects (now (classes .entry)) ⌝ }
 {
@@ -126,21 +111,6 @@ fn thread_counts_ok(counts: &[u16], objects: u8, live: bool, i: u8) -> bool
     true
 }
 
-fn counts_ok(s: State) -> bool
-    ensures { λ r. ⌜ r ≡ countsOk s ⌝ }
-{
-    let mut i: u8 = 0;
-    while i < 8 {
-        let k = i as usize;
-        let live = s.threads[k].live;
-        if !thread_counts_ok(&s.counts, s.objects, live, i) {
-            return false;
-        }
-        i += 1;
-    }
-    true
-}
-
 // 1 for a thread that holds the object, and 0 for another.
 fn holds(counts: &[u16], o: u8, i: u8) -> u8
     ensures { λ r. ⌜ r ≡ cond (holdsAt (now (counts .entry)) o i) 1 0 ⌝ }
@@ -177,17 +147,27 @@ fn sole_holders(counts: &[u16], objects: u8) -> bool
     true
 }
 
+// One pass over the threads, since each function that takes the state copies it.
 pub fn state_ok(b: &[u8], s: State) -> bool
     ensures { λ r. ⌜ r ≡ stateOk (programOf (now (b .entry))) s ⌝ }
 {
     if !objects_ok(b, s.objects, &s.classes) {
         return false;
     }
-    if !threads_ok(b, s) {
+    if !sole_holders(&s.counts, s.objects) {
         return false;
     }
-    if !counts_ok(s) {
-        return false;
+    let mut i: u8 = 0;
+    while i < 8 {
+        let k = i as usize;
+        let t = s.threads[k];
+        if !thread_ok(b, s.objects, t) {
+            return false;
+        }
+        if !thread_counts_ok(&s.counts, s.objects, t.live, i) {
+            return false;
+        }
+        i += 1;
     }
-    sole_holders(&s.counts, s.objects)
+    true
 }

@@ -1,35 +1,42 @@
 // return, athrow and new.
 ghost use mathlib.Core.Path.{_≡_};
 ghost use Prim.Native.Nat.{_<_};
+ghost use Rattle.state.specs.declared.State.{State};
+ghost use Rattle.machine.specs.Answers.{settled};
 ghost use Rattle.machine.specs.Instructions.{endStep, throwStep, makeStep, newStep};
 use crate::Stepped;
+use crate::Turn;
 use crate::moves;
 use instructions::Addr;
 use state::State;
 use threads::Thread;
 
-pub(crate) fn end_step(s: State, i: u8, t: Thread, vars: u8, n: u8) -> Stepped
-    ensures { λ r. ⌜ r ≡ endStep s i t vars n ⌝ }
+pub(crate) fn end_turn(counts: &[u16], i: u8, t: Thread, vars: u8, n: u8) -> Turn
+    requires { ⌜ n < 3 ⌝ }
+    ensures { λ r. ⌜ ((s : State) → s .counts ≡ now (counts .entry) → settled s i r ≡ endStep s i t vars n) ⌝ }
 {
-    if !state::holds_nothing(&s.counts, i) {
-        return Stepped {
+    if !state::holds_nothing(counts, i) {
+        return Turn {
             answer: 15,
-            state: s,
+            thread: t,
         };
     }
-    Stepped {
+    Turn {
         answer: n,
-        state: state::put_thread(s, i, threads::end(t, vars)),
+        thread: threads::end(t, vars),
     }
 }
 
-pub(crate) fn throw_step(s: State, i: u8, t: Thread, vars: u8, h: Addr) -> Stepped
-    ensures { λ r. ⌜ r ≡ throwStep s i t vars h ⌝ }
+pub(crate) fn throw_turn(counts: &[u16], i: u8, t: Thread, vars: u8, h: Addr) -> Turn
+    ensures { λ r. ⌜ ((s : State) → s .counts ≡ now (counts .entry) → settled s i r ≡ throwStep s i t vars h) ⌝ }
 {
     if h.0 == 0 {
-        return end_step(s, i, t, vars, 2);
+        return end_turn(counts, i, t, vars, 2);
     }
-    moves::went_to(s, i, threads::pop(t, t.depth), h)
+    Turn {
+        answer: 0,
+        thread: threads::go(threads::pop(t, t.depth), h),
+    }
 }
 
 fn make_step(s: State, i: u8, t: Thread, limit: u8, c: u8) -> Stepped
@@ -61,11 +68,8 @@ pub(crate) fn new_step(
     requires { ⌜ t .at .0 < 65535 ⌝ }
     ensures { λ r. ⌜ r ≡ newStep s i t limit vars c h fails ⌝ }
 {
-    if fails {
-        return throw_step(s, i, t, vars, h);
-    }
-    if 32 <= s.objects {
-        return throw_step(s, i, t, vars, h);
+    if fails || 32 <= s.objects {
+        return moves::settle(s, i, throw_turn(&s.counts, i, t, vars, h));
     }
     make_step(s, i, t, limit, c)
 }

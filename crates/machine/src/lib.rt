@@ -7,10 +7,10 @@ mod starts;
 
 ghost use mathlib.Core.Path.{_≡_};
 ghost use Prim.Native.Nat.{_<_};
-ghost use Rattle.bundle.specs.Container.{classAt};
-ghost use Rattle.bundle.specs.Program.{methodAt, programOf};
-ghost use Rattle.machine.specs.Machine.{mainThread, freshOf, execOf, runOf, stepOf};
-use bundle::Class;
+ghost use mathlib.Core.Bool.{true};
+ghost use Rattle.bundle.specs.Program.{programOf};
+ghost use Rattle.belongs.specs.Belongs.{stateOk};
+ghost use Rattle.machine.specs.Machine.{mainThread, readable, freshOf, stepOf};
 use instructions::Addr;
 use instructions::Instruction;
 use state::State;
@@ -18,8 +18,14 @@ use threads::Thread;
 
 // The answer of document 01's table, and the state: all answers but 0, 1, 2 give it back as given.
 pub struct Stepped {
-    pub answer: u8,
     pub state: State,
+    pub answer: u8,
+}
+
+// A step that leaves all but its thread alone: how the thread goes on, and the answer.
+struct Turn {
+    thread: Thread,
+    answer: u8,
 }
 
 fn main_thread() -> Thread
@@ -52,11 +58,22 @@ pub fn fresh(b: &[u8]) -> Stepped
     }
 }
 
-// `k` is what the directory says of the thread's class.
-fn exec(b: &[u8], s: State, i: u8, t: Thread, k: Class, fails: bool, x: Instruction) -> Stepped
-    requires { ⌜ (t .at .0 < 65535) × (k ≡ classAt (now b) (t .class)) ⌝ }
-    ensures { λ r. ⌜ r ≡ execOf (programOf (now (b .entry))) s i t (methodAt (now (b .entry)) (t .class)) fails x ⌝ }
+// The thread is read here, beside all that is done with the state: each function that takes the state copies it.
+fn run(b: &[u8], s: State, i: u8, fails: bool) -> Stepped
+    requires { ⌜ (i < 8) × (readable (now b) ≡ true) × (stateOk (programOf (now b)) s ≡ true) ⌝ }
+    ensures { λ r. ⌜ r ≡ stepOf (now (b .entry)) s i fails ⌝ }
 {
+    let p = i as usize;
+    let t = s.threads[p];
+    if !t.live {
+        return Stepped {
+            answer: 5,
+            state: s,
+        };
+    }
+    let k = bundle::class_at(b, t.class);
+    let r = bundle::part_of(b, k);
+    let x = bundle::instruction_at(k, r, t.at);
     match x {
         Instruction::Inc => stack::inc_step(s, i, t),
         Instruction::Pop => stack::pop_step(s, i, t),
@@ -68,23 +85,13 @@ fn exec(b: &[u8], s: State, i: u8, t: Thread, k: Class, fails: bool, x: Instruct
         Instruction::Exit(v) => locks::exit_step(s, i, t, v),
         Instruction::New(c, h) => ends::new_step(s, i, t, k.limit, k.vars, c, h, fails),
         Instruction::Start(c) => starts::start_class(b, s, i, t, c),
-        Instruction::Throw(h) => ends::throw_step(s, i, t, k.vars, h),
-        Instruction::Return => ends::end_step(s, i, t, k.vars, 1),
+        Instruction::Throw(h) => moves::settle(s, i, ends::throw_turn(&s.counts, i, t, k.vars, h)),
+        Instruction::Return => moves::settle(s, i, ends::end_turn(&s.counts, i, t, k.vars, 1)),
         Instruction::Nothing => Stepped {
             answer: 17,
             state: s,
         },
     }
-}
-
-fn run(b: &[u8], s: State, i: u8, t: Thread, fails: bool) -> Stepped
-    requires { ⌜ t .at .0 < 65535 ⌝ }
-    ensures { λ r. ⌜ r ≡ runOf (programOf (now (b .entry))) s i t fails ⌝ }
-{
-    let k = bundle::class_at(b, t.class);
-    let r = bundle::part_of(b, k);
-    let x = bundle::instruction_at(k, r, t.at);
-    exec(b, s, i, t, k, fails, x)
 }
 
 pub fn step(b: &[u8], s: State, thread: u8, fails: bool) -> Stepped
@@ -108,12 +115,5 @@ pub fn step(b: &[u8], s: State, thread: u8, fails: bool) -> Stepped
             state: s,
         };
     }
-    let t = state::thread(s, thread);
-    if !t.live {
-        return Stepped {
-            answer: 5,
-            state: s,
-        };
-    }
-    run(b, s, thread, t, fails)
+    run(b, s, thread, fails)
 }

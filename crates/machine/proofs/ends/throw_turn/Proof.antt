@@ -1,0 +1,25 @@
+use borrow.Author.Tests.{eq-eqb, ne-eqb}
+use Rattle.machine.specs.Instructions.{throwStep}
+use borrow.Author.Needs.{needs}
+use Rattle.machine.proofs.ends.throw_turn.Statement.{statement}
+use Rattle.machine.proofs.ends.throw_turn.Tie as tie
+
+end-turn-requires : tie.Need-end-turn-requires
+end-turn-requires c κs = search needs
+
+returns : tie.Need-returns
+unfolding throwStep
+returns c s e = rw (eq-eqb _ _ (c .before .if1 .taken)) (c .end-turn .ensures s e)
+
+pop-requires : tie.Need-pop-requires
+pop-requires c κs = search needs
+
+go-requires : tie.Need-go-requires
+go-requires c κs = search needs
+
+returns-2 : tie.Need-returns-2
+unfolding throwStep
+returns-2 c s e = rw (c .go .ensures, c .before .pop .ensures, ne-eqb _ _ (c .before .before .if1 .left))
+
+pub throw-turn-spec : {M : Type 1} → statement M
+throw-turn-spec = tie.close (tie.spec end-turn-requires returns pop-requires go-requires returns-2)
