@@ -1,9 +1,15 @@
 -- An entry is four bytes: what is read of the number that they make is what they are.
-use mathlib.Core.Path.{_≡_}
+use mathlib.Core.Path.{_≡_, refl, sym, _∙_}
+use mathlib.Core.Bool.{Bool, true, false, _&&_, _||_}
 use Prim.Native.Nat.{ℕ, _+_, _*_, _/_, _%_, _<_}
+use native.Mathlib.Nat.{div-add-mod'}
 use native.Mathlib.Omega.{arith}
-use lib.Arith.{digits-div, digits-mod}
-use Rattle.entries.specs.Entries.{entryOf, entryFrom}
+use lib.Dec.{eqb}
+use lib.Arith.{digits-div, digits-mod, mod-mul}
+use borrow.Author.Tests.{eqb-true, eq-eqb, ne-eqb}
+use Rattle.ground.proofs.Bools.{and-fst, and-snd, never}
+use Rattle.entries.specs.Entries.{zeros, pairOk, entryOf, entryFrom, isBlank, isType}
+use Rattle.entries.proofs.Types.{type-bytes, blank-bytes}
 
 module _ (n a b c d : ℕ) (la : a < 256) (lb : b < 256) (lc : c < 256) (ld : d < 256) where
   abbrev w : ℕ
@@ -29,3 +35,55 @@ module _ (n a b c d : ℕ) (la : a < 256) (lb : b < 256) (lc : c < 256) (ld : d 
   pub word-bytes : entryFrom n w ≡ entryOf n a b c d
   unfolding entryFrom
   word-bytes = rw (first, second, third, fourth)
+
+-- ---- Int and Top are one number each
+digits : (w : ℕ) → w ≡ w / 16777216 * 16777216 + (w / 65536 % 256 * 65536 + (w / 256 % 256 * 256 + w % 256))
+digits w =
+    omega (
+      arith,
+      div-add-mod' w 16777216,
+      mod-mul w {m = 256} {c = 65536} (omega arith) (omega arith),
+      mod-mul w {m = 256} {c = 256} (omega arith) (omega arith),
+    )
+
+-- of kind k, and zeros
+abbrev plain : ℕ → ℕ → Bool
+plain w k = eqb (w / 16777216) k && zeros (w / 65536 % 256) (w / 256 % 256) (w % 256)
+
+plain-is : (w k : ℕ) → plain w k ≡ true → w ≡ k * 16777216
+unfolding zeros
+plain-is w k q = let c = eqb (w / 65536 % 256) 0 in let d = eqb (w / 256 % 256) 0 in let z = and-snd (eqb (w / 16777216) k) _ q in let y = and-fst (c && d) _ z in
+    omega (
+      arith,
+      digits w,
+      eqb-true (w / 16777216) k (and-fst (eqb (w / 16777216) k) _ q),
+      eqb-true (w / 65536 % 256) 0 (and-fst c d y),
+      eqb-true (w / 256 % 256) 0 (and-snd c d y),
+      eqb-true (w % 256) 0 (and-snd (c && d) _ z),
+    )
+
+plain-word : (w k : ℕ) → plain (k * 16777216) k ≡ true → eqb w (k * 16777216) ≡ plain w k
+plain-word w k h = go (plain w k) refl
+  where
+    go : (t : Bool) → plain w k ≡ t → eqb w (k * 16777216) ≡ t
+    go true q = eq-eqb w (k * 16777216) (plain-is w k q)
+    go false q = ne-eqb w (k * 16777216) (λ e. never (rw e h) q)
+
+-- THEOREM: a type is Int's number, Top's number, or a reference
+pub type-word : (n w : ℕ)
+    → ((eqb w 16777216 || eqb w 33554432) || (eqb (w / 16777216) 3 && pairOk n (w / 65536 % 256) (w / 256 % 256) (w % 256))) ≡ isType (entryFrom n w)
+unfolding entryFrom zeros
+type-word n w =
+    rw (plain-word w 1 refl, plain-word w 2 refl) (apart (eqb (w / 16777216) 1) (eqb (w / 16777216) 2) _ _ ∙ type-bytes n _ _ _ _)
+  where
+    apart : (a b z r : Bool) → ((a && z || b && z) || r) ≡ ((a || b) && z || r)
+    apart true true true r = refl
+    apart true true false r = refl
+    apart true false true r = refl
+    apart true false false r = refl
+    apart false b z r = refl
+
+-- THEOREM: what stands below the depth in use is the number 0
+pub blank-word : (n w : ℕ) → eqb w 0 ≡ isBlank (entryFrom n w)
+unfolding entryFrom zeros
+blank-word n w = plain-word w 0 refl ∙ blank-bytes n _ _ _ _

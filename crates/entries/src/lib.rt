@@ -17,6 +17,11 @@ const MAX_END: u8 = 127;
 
 const NO_END: u8 = 64;
 
+// 1,0,0,0 and 2,0,0,0.
+const INT_WORD: u32 = 16777216;
+
+const TOP_WORD: u32 = 33554432;
+
 // The descriptor of an argument that is no class.
 const INT: u8 = 255;
 
@@ -202,29 +207,23 @@ fn is_malformed(x: Entry) -> bool
     }
 }
 
-fn bytes_typed(n: u8, kind: u8, c: u8, d: u8, e: u8) -> bool
-    ensures { λ r. ⌜ r ≡ isType (entryOf n kind c d e) ⌝ }
+fn is_reference(n: u8, w: u32) -> bool
+    ensures { λ r. ⌜ r ≡ (eqb (w / 16777216) 3 && pairOk n (w / 65536 % 256) (w / 256 % 256) (w % 256)) ⌝ }
 {
-    (((kind == 1) | (kind == 2)) & zeros(c, d, e)) | ((kind == 3) & pair_ok(n, c, d, e))
+    (kind_in(w) == 3) & pair_ok(n, class_in(w), dip_in(w), end_in(w))
 }
 
-// Whether w is a type, told from its bytes: every entry of a bundle is asked.
+// Whether w is a type. Every entry of a bundle is asked, so none is taken apart for it.
 pub fn typed(n: u8, w: u32) -> bool
     ensures { λ r. ⌜ r ≡ isType (entryFrom n w) ⌝ }
 {
-    bytes_typed(n, kind_in(w), class_in(w), dip_in(w), end_in(w))
-}
-
-fn bytes_blank(n: u8, kind: u8, c: u8, d: u8, e: u8) -> bool
-    ensures { λ r. ⌜ r ≡ isBlank (entryOf n kind c d e) ⌝ }
-{
-    (kind == 0) & zeros(c, d, e)
+    (w == INT_WORD) | (w == TOP_WORD) | is_reference(n, w)
 }
 
 pub fn blank(n: u8, w: u32) -> bool
     ensures { λ r. ⌜ r ≡ isBlank (entryFrom n w) ⌝ }
 {
-    bytes_blank(n, kind_in(w), class_in(w), dip_in(w), end_in(w))
+    w == 0
 }
 
 fn same(c: u8, d: u8) -> bool
