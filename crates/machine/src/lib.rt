@@ -16,7 +16,7 @@ use instructions::Instruction;
 use state::State;
 use threads::Thread;
 
-// The answer of document 01's table, and the state: all answers but 0, 1, 2 give it back as given.
+// The answer of document 01's table, and the state: all answers but 0, 1, 2 give it back as given. The state comes first, with no gap before it.
 pub struct Stepped {
     pub state: State,
     pub answer: u8,

@@ -9,13 +9,14 @@ use instructions::Addr;
 use instructions::Var;
 use values::Slot;
 
+// The arrays come first, with no gap before them: threads and states are copied often.
 pub struct Thread {
+    pub vars: [Slot; 16],
+    pub stack: [Slot; 16],
     pub live: bool,
     pub class: u8,
     pub at: Addr,
     pub depth: u8,
-    pub vars: [Slot; 16],
-    pub stack: [Slot; 16],
 }
 
 pub fn idle() -> Thread
