@@ -1,6 +1,6 @@
 // The machine's state: eight thread numbers, 32 objects, one count for each thread and each object.
 ghost use mathlib.Core.Path.{_≡_};
-ghost use Rattle.state.specs.State.{threadAt, countOf, classOf, withThread, withCount, withObject, emptyState, freeOf, othersFree, isFree, holdsNothing, lowestFree};
+ghost use Rattle.state.specs.State.{threadAt, countOf, withThread, withCount, withObject, emptyState, freeOf, othersFree, isFree, holdsNothing, lowestFree};
 use threads::Thread;
 
 pub struct State {
@@ -34,13 +34,6 @@ pub fn count(counts: &[u16], i: u8, o: u8) -> u16
 {
     let k = (i as usize) * 32 + (o as usize);
     if k < counts.len() { counts[k] } else { 0 }
-}
-
-pub fn class_of(s: State, o: u8) -> u8
-    ensures { λ r. ⌜ r ≡ classOf s o ⌝ }
-{
-    let k = o as usize;
-    if k < 32 { s.classes[k] } else { 0 }
 }
 
 pub fn put_thread(s: State, i: u8, t: Thread) -> State

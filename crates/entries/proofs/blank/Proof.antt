@@ -1,5 +1,4 @@
 use Rattle.entries.proofs.Words.{blank-word}
-use borrow.Author.Needs.{needs}
 use Rattle.entries.proofs.blank.Statement.{statement}
 use Rattle.entries.proofs.blank.Tie as tie
 

@@ -1,6 +1,5 @@
 use mathlib.Core.Path.{refl}
 use Rattle.structure.specs.Conditions.{lengthOk}
-use borrow.Author.Needs.{needs}
 use Rattle.structure.proofs.length_ok.Statement.{statement}
 use Rattle.structure.proofs.length_ok.Tie as tie
 

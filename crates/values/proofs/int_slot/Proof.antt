@@ -1,5 +1,4 @@
 use mathlib.Core.Path.{_≡_, _∙_, ap}
-use lib.IntN.{ℤ}
 use mir.Syntax.{w32}
 use mir.Val.{ofZ, toZ}
 use Rattle.values.specs.Values.{slot}
