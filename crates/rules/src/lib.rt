@@ -3,12 +3,13 @@ ghost use mathlib.Core.Path.{_≡_};
 ghost use Prim.Native.Nat.{_+_};
 ghost use Rattle.ground.specs.Bytes.{at};
 ghost use Rattle.bundle.specs.Program.{programOf};
+ghost use Rattle.instructions.specs.Table.{decoded};
 ghost use Rattle.rows.specs.Rows.{rowFrom, rowAt};
 ghost use Rattle.rules.specs.Rules.{incRule, popRule, push0Rule, loadRule, storeRule, ifRule, enterRule, exitRule, throwRule, newRule, argumentGoes, objectGoes, argumentsGo, startRule, returnRule, ruleOf};
 use bundle::Class;
 use entries::Entry;
 use instructions::Addr;
-use instructions::Instruction;
+use instructions::Code;
 
 fn inc_rule(n: u8, k: Class, r: &[u8], p: u32, q: u32) -> bool
     ensures { λ o. ⌜ o ≡ incRule (k .vars) (rowFrom n (now (r .entry)) (k .vars) p) (rowFrom n (now (r .entry)) (k .vars) q) ⌝ }
@@ -197,25 +198,30 @@ fn start_of(b: &[u8], n: u8, k: Class, r: &[u8], c: u8, p: u32, q: u32) -> bool
     start_rule(n, k, r, bundle::part_of(b, started), started.args, c, p, q)
 }
 
-// The rule of the instruction i at address l of the method whose record is r. The bundle is asked only for the class that a start names.
-pub fn rule_of(b: &[u8], n: u8, k: Class, r: &[u8], l: Addr, i: Instruction) -> bool
-    ensures { λ o. ⌜ o ≡ ruleOf (programOf (now (b .entry))) (k .vars) (rowAt n k (now (r .entry))) (l .0) i ⌝ }
+// The rule of the instruction x at address l of the method whose record is r. The bundle is asked only for the class that a start names.
+// The opcode is looked at once; where the table says 0, anything else is no instruction, and breaks the rule.
+pub fn rule_of(b: &[u8], n: u8, k: Class, r: &[u8], l: Addr, x: Code) -> bool
+    ensures { λ o. ⌜ o ≡ ruleOf (programOf (now (b .entry))) (k .vars) (rowAt n k (now (r .entry))) (l .0) (decoded x) ⌝ }
 {
     let p = rows::row_start(k, l);
     let q = rows::next_start(k, l);
-    match i {
-        Instruction::Inc => inc_rule(n, k, r, p, q),
-        Instruction::Pop => pop_rule(n, k, r, p, q),
-        Instruction::Push0 => push0_rule(n, k, r, p, q),
-        Instruction::Load(v) => load_rule(n, k, r, v.0, p, q),
-        Instruction::Store(v) => store_rule(n, k, r, v.0, p, q),
-        Instruction::If(a) => if_rule(n, k, r, p, q, rows::row_start(k, a)),
-        Instruction::Enter(v) => enter_rule(n, k, r, v.0, p, q),
-        Instruction::Exit(v) => exit_rule(n, k, r, v.0, p, q),
-        Instruction::New(c, h) => new_rule(n, k, r, c, h.0, p, q, rows::row_start(k, h)),
-        Instruction::Start(c) => start_of(b, n, k, r, c, p, q),
-        Instruction::Throw(h) => throw_rule(n, k, r, h.0, p, rows::row_start(k, h)),
-        Instruction::Return => return_rule(n, k, r, p),
-        Instruction::Nothing => false,
+    let h = rows::row_start(k, Addr(x.address));
+    let operand = x.operand;
+    let address = x.address;
+    let opcode = x.opcode;
+    match opcode {
+        1 => (operand == 0) & ((address == 0) & inc_rule(n, k, r, p, q)),
+        2 => (operand == 0) & ((address == 0) & pop_rule(n, k, r, p, q)),
+        3 => (operand == 0) & ((address == 0) & push0_rule(n, k, r, p, q)),
+        4 => (address == 0) & load_rule(n, k, r, operand, p, q),
+        5 => (address == 0) & store_rule(n, k, r, operand, p, q),
+        6 => (operand == 0) & if_rule(n, k, r, p, q, h),
+        7 => (address == 0) & enter_rule(n, k, r, operand, p, q),
+        8 => (address == 0) & exit_rule(n, k, r, operand, p, q),
+        9 => new_rule(n, k, r, operand, address, p, q, h),
+        10 => (address == 0) & start_of(b, n, k, r, operand, p, q),
+        11 => (operand == 0) & throw_rule(n, k, r, address, p, h),
+        12 => (operand == 0) & ((address == 0) & return_rule(n, k, r, p)),
+        _ => false,
     }
 }

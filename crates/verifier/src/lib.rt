@@ -71,7 +71,7 @@ fn rule_verdict(b: &[u8], n: u8, c: u8, k: Class, r: &[u8], i: u16) -> Verdict
     ensures { λ o. ⌜ o ≡ ruleVerdict (programOf (now (b .entry))) n c k (now (r .entry)) i ⌝ }
 {
     let l = Addr(i + 1);
-    if !rules::rule_of(b, n, k, r, l, bundle::instruction_at(k, r, l)) {
+    if !rules::rule_of(b, n, k, r, l, bundle::code_at(k, r, l)) {
         return Verdict {
             number: 9,
             class: c,
