@@ -8,13 +8,17 @@ use Rattle.instructions.specs.declared.Instruction.{Instruction}
 use Rattle.instructions.specs.declared.Instruction.the-variants.{Nothing}
 use Rattle.instructions.specs.Table.{zeroed, tableOk}
 
-pub zeroed-ok : (classes vars code field : ℕ) (i : Instruction) → tableOk classes vars code (zeroed field i) ≡ (eqb field 0 && tableOk classes vars code i)
+-- of any test that `Nothing` fails
+pub zeroed-test : (f : Instruction → Bool) → f Nothing ≡ false → (field : ℕ) (i : Instruction) → f (zeroed field i) ≡ (eqb field 0 && f i)
 unfolding zeroed refuse
-zeroed-ok classes vars code field i = go (eqb field 0)
+zeroed-test f n field i = go (eqb field 0)
   where
-    go : (t : Bool) → tableOk classes vars code (refuse t Nothing i) ≡ (t && tableOk classes vars code i)
+    go : (t : Bool) → f (refuse t Nothing i) ≡ (t && f i)
     go true = refl
-    go false = refl
+    go false = n
+
+pub zeroed-ok : (classes vars code field : ℕ) (i : Instruction) → tableOk classes vars code (zeroed field i) ≡ (eqb field 0 && tableOk classes vars code i)
+zeroed-ok classes vars code = zeroed-test (tableOk classes vars code) refl
 
 -- .. or both fields
 pub bare-ok : (classes vars code operand address : ℕ) (i : Instruction) → tableOk classes vars code i ≡ true

@@ -1,14 +1,13 @@
 -- Rules that never hold.
 use mathlib.Core.Path.{_≡_, refl}
-use mathlib.Core.Bool.{Bool, true, false, _&&_}
+use mathlib.Core.Bool.{false, _&&_}
 use Prim.Native.Nat.{ℕ, _+_, _<_}
 use lib.Dec.{eqb}
 use borrow.Author.Tests.{lt-leb}
-use Rattle.ground.specs.Chain.{refuse}
 use Rattle.ground.proofs.Bools.{and-false}
 use Rattle.instructions.specs.declared.Instruction.{Instruction}
-use Rattle.instructions.specs.declared.Instruction.the-variants.{Nothing}
 use Rattle.instructions.specs.Table.{zeroed}
+use Rattle.instructions.proofs.Table.{zeroed-test}
 use Rattle.bundle.specs.Program.{Program}
 use Rattle.rows.specs.Rows.{Row}
 use Rattle.matching.specs.Matching.{depthsFit, stackFits, restFits}
@@ -23,9 +22,4 @@ start-too-many vars args descriptor c x y l =
 
 -- what is no instruction breaks the rule
 pub zeroed-rule : (P : Program) (vars : ℕ) (row : ℕ → Row) (l field : ℕ) (i : Instruction) → ruleOf P vars row l (zeroed field i) ≡ (eqb field 0 && ruleOf P vars row l i)
-unfolding zeroed refuse
-zeroed-rule P vars row l field i = go (eqb field 0)
-  where
-    go : (t : Bool) → ruleOf P vars row l (refuse t Nothing i) ≡ (t && ruleOf P vars row l i)
-    go true = refl
-    go false = refl
+zeroed-rule P vars row l = zeroed-test (ruleOf P vars row l) refl
