@@ -8,7 +8,7 @@ ghost use Rattle.matching.specs.Matching.{varFits, varsFit, otherFits, o
 use bundle::Class;
 
 // Most entries stay as they are: equal bytes fit, and only others are taken apart.
-fn kept(n: u8, w: u32, v: u32) -> bool
+fn word_fits(n: u8, w: u32, v: u32) -> bool
     ensures { λ o. ⌜ o ≡ entryFits (entryFrom n w) (entryFrom n v) ⌝ }
 {
     if w == v {
@@ -20,7 +20,7 @@ fn kept(n: u8, w: u32, v: u32) -> bool
 fn var_fits(n: u8, k: Class, r: &[u8], p: u32, q: u32, i: u8) -> bool
     ensures { λ o. ⌜ o ≡ varFits (rowFrom n (now (r .entry)) (k .vars) p) (rowFrom n (now (r .entry)) (k .vars) q) i ⌝ }
 {
-    kept(
+    word_fits(
         n,
         rows::variable_word(r, p, k.vars, k.limit, i),
         rows::variable_word(r, q, k.vars, k.limit, i),
@@ -75,7 +75,7 @@ fn rest_entry_fits(n: u8, k: Class, r: &[u8], a: u8, b: u8, p: u32, q: u32, j: u
     requires { ⌜ (a + j ≤ 255) × (b + j ≤ 255) ⌝ }
     ensures { λ o. ⌜ o ≡ restEntryFits a b (rowFrom n (now (r .entry)) (k .vars) p) (rowFrom n (now (r .entry)) (k .vars) q) j ⌝ }
 {
-    kept(
+    word_fits(
         n,
         rows::stack_word(r, p, k.vars, k.limit, a + j),
         rows::stack_word(r, q, k.vars, k.limit, b + j),

@@ -15,12 +15,12 @@ add-stack-word-2 c = search needs
 stack-word-requires-2 : tie.Need-stack-word-requires-2
 stack-word-requires-2 c κs = search needs
 
-kept-requires : tie.Need-kept-requires
-kept-requires c κs = search needs
+word-fits-requires : tie.Need-word-fits-requires
+word-fits-requires c κs = search needs
 
 returns : tie.Need-returns
 unfolding stackAt
-returns c = rw (← c .before .before .stack-word .ensures, ← c .before .stack-word2 .ensures) (c .kept .ensures)
+returns c = rw (← c .before .before .stack-word .ensures, ← c .before .stack-word2 .ensures) (c .word-fits .ensures)
 
 pub rest-entry-fits-spec : {M : Type 1} → statement M
 rest-entry-fits-spec =
@@ -30,5 +30,5 @@ rest-entry-fits-spec =
     stack-word-requires
     add-stack-word-2
     stack-word-requires-2
-    kept-requires
+    word-fits-requires
     returns)
