@@ -1,15 +1,14 @@
--- What the bytes of an entry say of it, without taking it apart; and that fits is reflexive.
-use mathlib.Core.Path.{_≡_, refl}
-use mathlib.Core.Bool.{Bool, true, false, _&&_, _||_}
+-- What the bytes of an entry say of it, without taking it apart; what is no reference; and that fits is reflexive.
+use mathlib.Core.Path.{_≡_, refl, sym}
+use mathlib.Core.Bool.{Bool, true, false, cond, _&&_, _||_}
 use Prim.Native.Nat.{ℕ}
-use lib.Dec.{eqb}
-use borrow.Author.Tests.{eqb-true, eq-eqb, le-leb}
+use lib.Dec.{eqb, leb}
+use borrow.Author.Tests.{eqb-true, eqb-false, eq-eqb, ne-eqb, le-leb}
 use native.Mathlib.Omega.{arith}
 use Rattle.ground.specs.Chain.{refuse}
-use Rattle.entries.specs.declared.Entry.{Entry}
-use Rattle.entries.specs.declared.Entry.the-variants.{Int, Top, Ref, Blank, Malformed}
-use Rattle.entries.specs.Entries.{zeros, pairOk, entryOf, isBlank, isType}
-use Rattle.entries.specs.Fits.{pairFits, entryFits}
+use Rattle.ground.proofs.Bools.{never}
+use Rattle.entries.specs.Entries.{Entry, Int, Top, Ref, Blank, Malformed, zeros, pairOk, entryOf, kindOf, classOf, dipOf, endOf, isInt, isTop, isBlank, isReference, isType, isOf}
+use Rattle.entries.specs.Fits.{takes, compare, want}
 
 -- of a test of the bytes: that it holds for each kind is that it holds for all
 by-kind : (B : ℕ → Type 0) → B 0 → B 1 → B 2 → B 3
@@ -33,57 +32,142 @@ by-kind B b0 b1 b2 b3 other kind = go0 (eqb kind 0) refl
     go0 true q = rw (eqb-true kind 0 q) b0
     go0 false q = go1 (eqb kind 1) refl q
 
+-- a test that what is malformed does not pass, of bytes that may be malformed
+module _ (test : Entry → Bool) (fails : test Malformed ≡ false) where
+  passes : (z : Bool) (x : Entry) → test x ≡ true → z ≡ test (refuse z Malformed x)
+  unfolding refuse
+  passes true x h = sym h
+  passes false x h = sym fails
+
+  passes-not : (z : Bool) (x : Entry) → test x ≡ false → false ≡ test (refuse z Malformed x)
+  unfolding refuse
+  passes-not true x h = sym h
+  passes-not false x h = sym fails
+
 module _ (n c d e : ℕ) where
-  typed-as : (z : Bool) (x : Entry) → isType x ≡ true → (z || false) ≡ isType (refuse z Malformed x)
-  unfolding refuse
-  typed-as true x h = rw h
-  typed-as false x h = refl
-
-  no-type : (z : Bool) (x : Entry) → isType x ≡ false → false ≡ isType (refuse z Malformed x)
-  unfolding refuse
-  no-type true x h = rw h
-  no-type false x h = refl
-
-  plain-typed : (p : Bool) → p ≡ isType (refuse p Malformed (Ref c d e))
-  unfolding refuse
-  plain-typed true = refl
-  plain-typed false = refl
-
-  pub type-bytes : (kind : ℕ) → ((eqb kind 1 || eqb kind 2) && zeros c d e || eqb kind 3 && pairOk n c d e) ≡ isType (entryOf n kind c d e)
-  unfolding entryOf
-  type-bytes =
-      by-kind (λ kind. ((eqb kind 1 || eqb kind 2) && zeros c d e || eqb kind 3 && pairOk n c d e) ≡ isType (entryOf n kind c d e))
-      (no-type (zeros c d e) Blank refl)
-      (typed-as (zeros c d e) Int refl)
-      (typed-as (zeros c d e) Top refl)
-      (plain-typed (pairOk n c d e))
-      (λ kind p0 p1 p2 p3. rw (p0, p1, p2, p3))
-
-  is-blank : (z : Bool) → z ≡ isBlank (refuse z Malformed Blank)
-  unfolding refuse
-  is-blank true = refl
-  is-blank false = refl
-
-  no-blank : (z : Bool) (x : Entry) → isBlank x ≡ false → false ≡ isBlank (refuse z Malformed x)
-  unfolding refuse
-  no-blank true x h = rw h
-  no-blank false x h = refl
-
   pub blank-bytes : (kind : ℕ) → (eqb kind 0 && zeros c d e) ≡ isBlank (entryOf n kind c d e)
   unfolding entryOf
   blank-bytes =
       by-kind (λ kind. (eqb kind 0 && zeros c d e) ≡ isBlank (entryOf n kind c d e))
-      (is-blank (zeros c d e))
-      (no-blank (zeros c d e) Int refl)
-      (no-blank (zeros c d e) Top refl)
-      (no-blank (pairOk n c d e) (Ref c d e) refl)
+      (passes isBlank refl (zeros c d e) Blank refl)
+      (passes-not isBlank refl (zeros c d e) Int refl)
+      (passes-not isBlank refl (zeros c d e) Top refl)
+      (passes-not isBlank refl (pairOk n c d e) (Ref c d e) refl)
       (λ kind p0 p1 p2 p3. rw (p0, p1, p2, p3))
 
+  pub int-bytes : (kind : ℕ) → (eqb kind 1 && zeros c d e) ≡ isInt (entryOf n kind c d e)
+  unfolding entryOf
+  int-bytes =
+      by-kind (λ kind. (eqb kind 1 && zeros c d e) ≡ isInt (entryOf n kind c d e))
+      (passes-not isInt refl (zeros c d e) Blank refl)
+      (passes isInt refl (zeros c d e) Int refl)
+      (passes-not isInt refl (zeros c d e) Top refl)
+      (passes-not isInt refl (pairOk n c d e) (Ref c d e) refl)
+      (λ kind p0 p1 p2 p3. rw (p0, p1, p2, p3))
+
+  pub top-bytes : (kind : ℕ) → (eqb kind 2 && zeros c d e) ≡ isTop (entryOf n kind c d e)
+  unfolding entryOf
+  top-bytes =
+      by-kind (λ kind. (eqb kind 2 && zeros c d e) ≡ isTop (entryOf n kind c d e))
+      (passes-not isTop refl (zeros c d e) Blank refl)
+      (passes-not isTop refl (zeros c d e) Int refl)
+      (passes isTop refl (zeros c d e) Top refl)
+      (passes-not isTop refl (pairOk n c d e) (Ref c d e) refl)
+      (λ kind p0 p1 p2 p3. rw (p0, p1, p2, p3))
+
+  pub reference-bytes : (kind : ℕ) → (eqb kind 3 && pairOk n c d e) ≡ isReference (entryOf n kind c d e)
+  unfolding entryOf
+  reference-bytes =
+      by-kind (λ kind. (eqb kind 3 && pairOk n c d e) ≡ isReference (entryOf n kind c d e))
+      (passes-not isReference refl (zeros c d e) Blank refl)
+      (passes-not isReference refl (zeros c d e) Int refl)
+      (passes-not isReference refl (zeros c d e) Top refl)
+      (passes isReference refl (pairOk n c d e) (Ref c d e) refl)
+      (λ kind p0 p1 p2 p3. rw (p0, p1, p2, p3))
+
+  -- a reference is that of its bytes
+  refused-is : (z : Bool) (x : Entry) → isReference (refuse z Malformed x) ≡ true → (isReference x ≡ true → x ≡ Ref c d e) → refuse z Malformed x ≡ Ref c d e
+  unfolding refuse
+  refused-is true x h g = g h
+  refused-is false x h g = never h refl
+
+  pub reference-is : (kind : ℕ) → isReference (entryOf n kind c d e) ≡ true → entryOf n kind c d e ≡ Ref c d e
+  unfolding entryOf
+  reference-is =
+      by-kind (λ kind. isReference (entryOf n kind c d e) ≡ true → entryOf n kind c d e ≡ Ref c d e)
+      (λ h. refused-is (zeros c d e) Blank h (λ g. never g refl))
+      (λ h. refused-is (zeros c d e) Int h (λ g. never g refl))
+      (λ h. refused-is (zeros c d e) Top h (λ g. never g refl))
+      (λ h. refused-is (pairOk n c d e) (Ref c d e) h (λ g. refl))
+      (λ kind p0 p1 p2 p3 h. never (rw (p0, p1, p2, p3) at h) refl)
+
+-- ---- the other entries
+pub no-class : (x : Entry) → isReference x ≡ false → 0 ≡ classOf x
+no-class Int h = refl
+no-class Top h = refl
+no-class (Ref c d e) h = never refl h
+no-class Blank h = refl
+no-class Malformed h = refl
+
+pub no-dip : (x : Entry) → isReference x ≡ false → 0 ≡ dipOf x
+no-dip Int h = refl
+no-dip Top h = refl
+no-dip (Ref c d e) h = never refl h
+no-dip Blank h = refl
+no-dip Malformed h = refl
+
+pub no-end : (x : Entry) → isReference x ≡ false → 64 ≡ endOf x
+no-end Int h = refl
+no-end Top h = refl
+no-end (Ref c d e) h = never refl h
+no-end Blank h = refl
+no-end Malformed h = refl
+
+-- the kind by one test after another
+pub kind-told : (x : Entry) → cond (isReference x) 3 (cond (isInt x) 1 (cond (isTop x) 2 (cond (isBlank x) 0 4))) ≡ kindOf x
+kind-told Int = refl
+kind-told Top = refl
+kind-told (Ref c d e) = refl
+kind-told Blank = refl
+kind-told Malformed = refl
+
+pub type-told : (x : Entry) → ((isInt x || isTop x) || isReference x) ≡ isType x
+type-told Int = refl
+type-told Top = refl
+type-told (Ref c d e) = refl
+type-told Blank = refl
+type-told Malformed = refl
+
+-- ---- what Int, and a class with (0,0), come to
+pub int-compared : (y : Entry) → cond (isInt y || isTop y) 0 1 ≡ compare Int (want y)
+unfolding compare takes refuse
+int-compared Int = refl
+int-compared Top = refl
+int-compared (Ref c d e) = refl
+int-compared Blank = refl
+int-compared Malformed = refl
+
+pub made-taken : (c : ℕ) (y : Entry) → (isTop y || isOf c y) ≡ takes y (Ref c 0 64)
+unfolding takes
+made-taken c Int = refl
+made-taken c Top = refl
+made-taken c (Ref b d e) = go (eqb b c) refl
+  where
+    go : (t : Bool) → eqb b c ≡ t → t ≡ eqb c b
+    go true q = sym (eq-eqb c b (sym (eqb-true b c q)))
+    go false q = sym (ne-eqb c b (λ h. eqb-false b c q (sym h)))
+made-taken c Blank = refl
+made-taken c Malformed = refl
+
 -- equal entries fit: most stay as they are from row to row
-pub fits-itself : (x : Entry) → entryFits x x ≡ true
-unfolding pairFits
-fits-itself Int = refl
-fits-itself Top = refl
-fits-itself (Ref c d e) = rw (eq-eqb c c refl, le-leb d d (omega arith), le-leb e e (omega arith))
-fits-itself Blank = refl
-fits-itself Malformed = refl
+takes-itself : (x : Entry) → takes x x ≡ true
+unfolding takes
+takes-itself Int = refl
+takes-itself Top = refl
+takes-itself (Ref c d e) = rw (eq-eqb c c refl)
+takes-itself Blank = refl
+takes-itself Malformed = refl
+
+pub fits-itself : (x : Entry) → compare x (want x) ≡ 0
+unfolding compare refuse
+fits-itself x = rw (takes-itself x, le-leb (dipOf x) (dipOf x) (omega arith), le-leb (endOf x) (endOf x) (omega arith))

@@ -1,6 +1,6 @@
 -- An entry is four bytes: what is read of the number that they make is what they are.
-use mathlib.Core.Path.{_≡_, refl, _∙_}
-use mathlib.Core.Bool.{Bool, true, false, _&&_, _||_}
+use mathlib.Core.Path.{_≡_, refl, sym, _∙_}
+use mathlib.Core.Bool.{Bool, true, false, _&&_}
 use Prim.Native.Nat.{ℕ, _+_, _*_, _/_, _%_, _<_}
 use native.Mathlib.Nat.{div-add-mod'}
 use native.Mathlib.Omega.{arith}
@@ -8,8 +8,9 @@ use lib.Dec.{eqb}
 use lib.Arith.{digits-div, digits-mod, mod-mul}
 use borrow.Author.Tests.{eqb-true, eq-eqb, ne-eqb}
 use Rattle.ground.proofs.Bools.{and-fst, and-snd, never}
-use Rattle.entries.specs.Entries.{zeros, pairOk, entryOf, entryFrom, isBlank, isType}
-use Rattle.entries.proofs.Types.{type-bytes, blank-bytes}
+use Rattle.entries.specs.Entries.{Ref, zeros, pairOk, entryOf, entryFrom, dipOf, endOf, classOf, isInt, isTop, isBlank, isReference}
+use Rattle.entries.specs.Fits.{compare, want}
+use Rattle.entries.proofs.Types.{blank-bytes, int-bytes, top-bytes, reference-bytes, reference-is, fits-itself}
 
 module _ (n a b c d : ℕ) (la : a < 256) (lb : b < 256) (lc : c < 256) (ld : d < 256) where
   abbrev w : ℕ
@@ -69,21 +70,38 @@ plain-word w k h = go (plain w k) refl
     go true q = eq-eqb w (k * 16777216) (plain-is w k q)
     go false q = ne-eqb w (k * 16777216) (λ e. never (rw e h) q)
 
--- THEOREM: a type is Int's number, Top's number, or a reference
-pub type-word : (n w : ℕ)
-    → ((eqb w 16777216 || eqb w 33554432) || (eqb (w / 16777216) 3 && pairOk n (w / 65536 % 256) (w / 256 % 256) (w % 256))) ≡ isType (entryFrom n w)
+-- THEOREM: Int, Top and what stands below the depth in use are one number each
+pub int-word : (n w : ℕ) → eqb w 16777216 ≡ isInt (entryFrom n w)
 unfolding entryFrom zeros
-type-word n w =
-    rw (plain-word w 1 refl, plain-word w 2 refl) (apart (eqb (w / 16777216) 1) (eqb (w / 16777216) 2) _ _ ∙ type-bytes n _ _ _ _)
-  where
-    apart : (a b z r : Bool) → ((a && z || b && z) || r) ≡ ((a || b) && z || r)
-    apart true true true r = refl
-    apart true true false r = refl
-    apart true false true r = refl
-    apart true false false r = refl
-    apart false b z r = refl
+int-word n w = plain-word w 1 refl ∙ int-bytes n _ _ _ _
 
--- THEOREM: what stands below the depth in use is the number 0
+pub top-word : (n w : ℕ) → eqb w 33554432 ≡ isTop (entryFrom n w)
+unfolding entryFrom zeros
+top-word n w = plain-word w 2 refl ∙ top-bytes n _ _ _ _
+
 pub blank-word : (n w : ℕ) → eqb w 0 ≡ isBlank (entryFrom n w)
 unfolding entryFrom zeros
 blank-word n w = plain-word w 0 refl ∙ blank-bytes n _ _ _ _
+
+-- THEOREM: a reference is told by its kind and its pair, and is that of its bytes
+pub reference-word : (n w : ℕ) → (eqb (w / 16777216) 3 && pairOk n (w / 65536 % 256) (w / 256 % 256) (w % 256)) ≡ isReference (entryFrom n w)
+unfolding entryFrom
+reference-word n w = reference-bytes n _ _ _ _
+
+module _ (n w : ℕ) (h : isReference (entryFrom n w) ≡ true) where
+  word-is : entryFrom n w ≡ Ref (w / 65536 % 256) (w / 256 % 256) (w % 256)
+  unfolding entryFrom
+  word-is = reference-is n _ _ _ _ h
+
+  pub word-class : w / 65536 % 256 ≡ classOf (entryFrom n w)
+  word-class = rw word-is
+
+  pub word-dip : w / 256 % 256 ≡ dipOf (entryFrom n w)
+  word-dip = rw word-is
+
+  pub word-end : w % 256 ≡ endOf (entryFrom n w)
+  word-end = rw word-is
+
+-- equal words fit
+pub same-word : (n w v : ℕ) → w ≡ v → 0 ≡ compare (entryFrom n w) (want (entryFrom n v))
+same-word n w v e = rw e (sym (fits-itself (entryFrom n v)))

@@ -1,10 +1,16 @@
 -- Document 01, types and pairs: what four bytes are, in a bundle of n classes. Ends are kept as stored, with 64 added, so that they are natural numbers.
-use mathlib.Core.Bool.{Bool, true, false, cond, _&&_}
+use mathlib.Core.Bool.{Bool, cond, _&&_}
 use Prim.Native.Nat.{ℕ, _/_, _%_}
 use lib.Dec.{leb, ltb, eqb}
 use Rattle.ground.specs.Chain.{refuse}
-use Rattle.entries.specs.declared.Entry.{Entry}
-use Rattle.entries.specs.declared.Entry.the-variants.{Int, Top, Ref, Blank, Malformed}
+
+-- Int, Top, or a reference with its class, dip and end; four zeros, which stand below the depth in use; any other four bytes
+pub data Entry : Type 0 where
+  Int : Entry
+  Top : Entry
+  Ref : ℕ → ℕ → ℕ → Entry
+  Blank : Entry
+  Malformed : Entry
 
 -- the greatest dip, the least and the greatest end
 abbrev pub maxDip : ℕ
@@ -56,49 +62,40 @@ endOf (Ref c d e) = e
 endOf Blank = noEnd
 endOf Malformed = noEnd
 
-abbrev pub isInt : Entry → Bool
-isInt Int = true
-isInt Top = false
-isInt (Ref c d e) = false
-isInt Blank = false
-isInt Malformed = false
+-- the kind that the first byte gives; what is malformed is of no kind, which is the number behind them
+abbrev pub kindOf : Entry → ℕ
+kindOf Int = 1
+kindOf Top = 2
+kindOf (Ref c d e) = 3
+kindOf Blank = 0
+kindOf Malformed = 4
 
-abbrev pub isTop : Entry → Bool
-isTop Int = false
-isTop Top = true
-isTop (Ref c d e) = false
-isTop Blank = false
-isTop Malformed = false
+abbrev pub classOf : Entry → ℕ
+classOf Int = 0
+classOf Top = 0
+classOf (Ref c d e) = c
+classOf Blank = 0
+classOf Malformed = 0
 
 abbrev pub isBlank : Entry → Bool
-isBlank Int = false
-isBlank Top = false
-isBlank (Ref c d e) = false
-isBlank Blank = true
-isBlank Malformed = false
+isBlank x = eqb (kindOf x) 0
 
-abbrev pub isMalformed : Entry → Bool
-isMalformed Int = false
-isMalformed Top = false
-isMalformed (Ref c d e) = false
-isMalformed Blank = false
-isMalformed Malformed = true
+abbrev pub isInt : Entry → Bool
+isInt x = eqb (kindOf x) 1
+
+abbrev pub isTop : Entry → Bool
+isTop x = eqb (kindOf x) 2
+
+abbrev pub isReference : Entry → Bool
+isReference x = eqb (kindOf x) 3
 
 -- Int, Top or a reference: what a variable and a stack entry in use must be
 abbrev pub isType : Entry → Bool
-isType Int = true
-isType Top = true
-isType (Ref c d e) = true
-isType Blank = false
-isType Malformed = false
+isType x = leb 1 (kindOf x) && leb (kindOf x) 3
 
 -- a reference of class c
 abbrev pub isOf : ℕ → Entry → Bool
-isOf c Int = false
-isOf c Top = false
-isOf c (Ref c′ d e) = eqb c c′
-isOf c Blank = false
-isOf c Malformed = false
+isOf c x = isReference x && eqb (classOf x) c
 
 -- argument descriptors: FF is Int, otherwise a class number. An argument as its type: Int, or its class with (0,0)
 unfoldable pub argumentEntry : ℕ → Entry

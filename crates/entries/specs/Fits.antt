@@ -1,85 +1,49 @@
--- Document 01, fits and may go, and what load, monitorenter and monitorexit ask of the entries that they name.
-use mathlib.Core.Bool.{Bool, true, false, _&&_}
-use Prim.Native.Nat.{ℕ, _+_}
+-- Document 01, fits and may go, and what load, monitorenter and monitorexit ask of the entries that they name: one comparison, which says what is short (document 02, Q-1).
+use mathlib.Core.Bool.{Bool, true, cond, _&&_}
+use Prim.Native.Nat.{ℕ, _+_, _-_}
 use lib.Dec.{leb, eqb}
-use Rattle.entries.specs.declared.Entry.{Entry}
-use Rattle.entries.specs.declared.Entry.the-variants.{Int, Top, Ref, Blank, Malformed}
-use Rattle.entries.specs.Entries.{noEnd, dipOf, endOf, isTop, isBlank, isMalformed}
+use Rattle.ground.specs.Chain.{refuse}
+use Rattle.entries.specs.Entries.{Entry}
+use Rattle.entries.specs.Entries.{noEnd, dipOf, endOf, kindOf, classOf, isTop, isType}
 
--- Int fits Int or Top
-abbrev pub intFits : Entry → Bool
-intFits Int = true
-intFits Top = true
-intFits (Ref c d e) = false
-intFits Blank = false
-intFits Malformed = false
-
--- a reference (d,e) fits a reference of the same class (d',e') if d ≥ d' and e ≥ e'
-unfoldable pub pairFits : ℕ → ℕ → ℕ → ℕ → ℕ → ℕ → Bool
-pairFits c d e c′ d′ e′ = eqb c c′ && leb d′ d && leb e′ e
-
--- .. and fits Top if e ≥ 0
-abbrev pub refFits : ℕ → ℕ → ℕ → Entry → Bool
-refFits c d e Int = false
-refFits c d e Top = leb noEnd e
-refFits c d e (Ref c′ d′ e′) = pairFits c d e c′ d′ e′
-refFits c d e Blank = false
-refFits c d e Malformed = false
-
--- Top fits Top; what is no type fits only its like, and no rule sees it, since 8 comes before 9
-abbrev pub entryFits : Entry → Entry → Bool
-entryFits Int y = intFits y
-entryFits Top y = isTop y
-entryFits (Ref c d e) y = refFits c d e y
-entryFits Blank y = isBlank y
-entryFits Malformed y = isMalformed y
-
--- may go: Int, Top, or a reference with e ≥ 0
+-- may go: Int, Top, or a reference with e ≥ 0 (Int and Top weigh e = 0)
 abbrev pub mayGo : Entry → Bool
-mayGo Int = true
-mayGo Top = true
-mayGo (Ref c d e) = leb noEnd e
-mayGo Blank = false
-mayGo Malformed = false
+mayGo x = leb noEnd (endOf x)
 
--- as Top or as its own class
-abbrev pub goesAs : ℕ → Entry → Bool
-goesAs c Int = false
-goesAs c Top = true
-goesAs c (Ref c′ d e) = eqb c c′
-goesAs c Blank = false
-goesAs c Malformed = false
+-- Int fits Int or Top, Top fits Top, a reference fits one of the same class, or Top: y takes x, pairs aside. What is no type fits only its like, and no rule sees it, since 8 comes before 9
+unfoldable pub takes : Entry → Entry → Bool
+takes y x = cond (isTop y) (isType x) (eqb (kindOf x) (kindOf y) && eqb (classOf x) (classOf y))
 
--- a reference goes to each as Top or as its own class, with d ≥ the sum of both dips and e ≥ the sum of both ends
-unfoldable pub pairSplits : ℕ → ℕ → ℕ → Entry → Entry → Bool
-pairSplits c d e x y = goesAs c x && goesAs c y && leb (dipOf x + dipOf y) d && leb (endOf x + endOf y) (e + noEnd)
+-- what a place wants of the entry that comes there: kind and class, and a pair that it must not fall short of
+pub record Want : Type 0 where
+  pub kind : Entry → Bool
+  pub dip : ℕ
+  pub end : ℕ
 
--- load: a non-reference fits both the next variable x and the new top y
-abbrev pub loadSplits : Entry → Entry → Entry → Bool
-loadSplits Int x y = intFits x && intFits y
-loadSplits Top x y = isTop x && isTop y
-loadSplits (Ref c d e) x y = pairSplits c d e x y
-loadSplits Blank x y = false
-loadSplits Malformed x y = false
+-- the comparison of an entry with what is wanted: fits (0), kind or class differs (1), dip too small (2), end too small (3); the lowest that applies
+unfoldable pub compare : Entry → Want → ℕ
+compare x w = refuse (w .kind x) 1 (refuse (leb (w .dip) (dipOf x)) 2 (refuse (leb (w .end) (endOf x)) 3 0))
 
--- monitorenter: next is its class or Top, weight (d',e'); d ≥ d'-1 and e ≥ e'+1
-unfoldable pub pairEnters : ℕ → ℕ → ℕ → Entry → Bool
-pairEnters c d e y = goesAs c y && leb (dipOf y) (d + 1) && leb (endOf y + 1) e
+-- the entry y as it stands: d ≥ d' and e ≥ e'
+abbrev pub want : Entry → Want
+want y = record { kind = takes y; dip = dipOf y; end = endOf y }
 
-abbrev pub enterMoves : Entry → Entry → Bool
-enterMoves Int y = false
-enterMoves Top y = false
-enterMoves (Ref c d e) y = pairEnters c d e y
-enterMoves Blank y = false
-enterMoves Malformed y = false
+-- monitorenter: d ≥ d'-1 and e ≥ e'+1
+abbrev pub wantEntered : Entry → Want
+wantEntered y = record { kind = takes y; dip = dipOf y - 1; end = endOf y + 1 }
 
--- monitorexit: likewise, d ≥ d'+1 and e ≥ e'-1
-unfoldable pub pairExits : ℕ → ℕ → ℕ → Entry → Bool
-pairExits c d e y = goesAs c y && leb (dipOf y + 1) d && leb (endOf y) (e + 1)
+-- monitorexit: d ≥ d'+1 and e ≥ e'-1
+abbrev pub wantLeft : Entry → Want
+wantLeft y = record { kind = takes y; dip = dipOf y + 1; end = endOf y - 1 }
 
-abbrev pub exitMoves : Entry → Entry → Bool
-exitMoves Int y = false
-exitMoves Top y = false
-exitMoves (Ref c d e) y = pairExits c d e y
-exitMoves Blank y = false
-exitMoves Malformed y = false
+-- load: to each as Top or as its own class, d ≥ the sum of both dips and e ≥ the sum of both ends
+abbrev pub wantBoth : Entry → Entry → Want
+wantBoth y z = record { kind = λ x. takes y x && takes z x; dip = dipOf y + dipOf z; end = endOf y + endOf z - noEnd }
+
+-- nothing: what comes there is compared elsewhere
+abbrev pub wantNothing : Want
+wantNothing = record { kind = λ x. true; dip = 0; end = 0 }
+
+-- x fits y
+abbrev pub entryFits : Entry → Entry → Bool
+entryFits x y = eqb (compare x (want y)) 0

@@ -1,21 +1,18 @@
-// One entry of a row, as the four-byte number that it is in the bundle and by value. Ends are kept as stored, with 64 added.
+// One entry of a row, as the four-byte number that it is in a bundle of n classes; nothing is taken apart further than a question needs.
+// Ends are kept as stored, with 64 added.
 ghost use mathlib.Core.Path.{_≡_};
-ghost use mathlib.Core.Bool.{_&&_};
-ghost use Prim.Native.Nat.{_≤_, _/_, _%_};
-ghost use lib.Dec.{leb, eqb};
+ghost use Prim.Native.Nat.{_+_, _-_, _≤_, _/_, _%_};
+ghost use lib.Dec.{leb};
 ghost use Rattle.ground.specs.Chain.{refuse};
-ghost use Rattle.entries.specs.declared.Entry.the-variants.{Ref, Malformed};
-ghost use Rattle.entries.specs.Entries.{noEnd, zeros, pairOk, entryOf, entryFrom, dipOf, endOf, isInt, isTop, isBlank, isMalformed, isType, isOf, argumentEntry, matches};
-ghost use Rattle.entries.specs.Fits.{intFits, pairFits, refFits, entryFits, mayGo, goesAs, pairSplits, loadSplits, pairEnters, enterMoves, pairExits, exitMoves};
+ghost use Rattle.entries.specs.Entries.{Int, Ref, pairOk, entryFrom, dipOf, endOf, kindOf, classOf, isInt, isTop, isReference, isBlank, isType, isOf, noEnd, argumentEntry, matches};
+ghost use Rattle.entries.specs.Fits.{mayGo, takes, compare, want, wantEntered, wantLeft, wantBoth};
 
-// The greatest dip, the least and the greatest end, and an end of 0.
+// The greatest dip, the least and the greatest end.
 const MAX_DIP: u8 = 63;
 
 const MIN_END: u8 = 1;
 
 const MAX_END: u8 = 127;
-
-const NO_END: u8 = 64;
 
 // 1,0,0,0 and 2,0,0,0.
 const INT_WORD: u32 = 16777216;
@@ -24,61 +21,6 @@ const TOP_WORD: u32 = 33554432;
 
 // The descriptor of an argument that is no class.
 const INT: u8 = 255;
-
-pub enum Entry {
-    Int,
-    Top,
-    Ref { class: u8, dip: u8, end: u8 },
-    // A stack entry below the depth in use.
-    Blank,
-    Malformed,
-}
-
-fn zeros(c: u8, d: u8, e: u8) -> bool
-    ensures { λ r. ⌜ r ≡ zeros c d e ⌝ }
-{
-    (c == 0) & (d == 0) & (e == 0)
-}
-
-fn pair_ok(n: u8, c: u8, d: u8, e: u8) -> bool
-    ensures { λ r. ⌜ r ≡ pairOk n c d e ⌝ }
-{
-    (c < n) & (d <= MAX_DIP) & (MIN_END <= e) & (e <= MAX_END)
-}
-
-fn plain(c: u8, d: u8, e: u8, x: Entry) -> Entry
-    ensures { λ r. ⌜ r ≡ refuse (zeros c d e) Malformed x ⌝ }
-{
-    if !zeros(c, d, e) {
-        return Entry::Malformed;
-    }
-    x
-}
-
-fn reference(n: u8, c: u8, d: u8, e: u8) -> Entry
-    ensures { λ r. ⌜ r ≡ refuse (pairOk n c d e) Malformed (Ref c d e) ⌝ }
-{
-    if !pair_ok(n, c, d, e) {
-        return Entry::Malformed;
-    }
-    Entry::Ref {
-        class: c,
-        dip: d,
-        end: e,
-    }
-}
-
-fn entry_of(n: u8, kind: u8, c: u8, d: u8, e: u8) -> Entry
-    ensures { λ r. ⌜ r ≡ entryOf n kind c d e ⌝ }
-{
-    match kind {
-        0 => plain(c, d, e, Entry::Blank),
-        1 => plain(c, d, e, Entry::Int),
-        2 => plain(c, d, e, Entry::Top),
-        3 => reference(n, c, d, e),
-        _ => Entry::Malformed,
-    }
-}
 
 fn kind_in(w: u32) -> u8
     ensures { λ r. ⌜ r ≡ w / 16777216 ⌝ }
@@ -104,320 +46,230 @@ fn end_in(w: u32) -> u8
     (w % 256) as u8
 }
 
-// The entry that the four bytes of w are, in a bundle of n classes.
-pub fn entry_from(n: u8, w: u32) -> Entry
-    ensures { λ r. ⌜ r ≡ entryFrom n w ⌝ }
+fn pair_ok(n: u8, c: u8, d: u8, e: u8) -> bool
+    ensures { λ r. ⌜ r ≡ pairOk n c d e ⌝ }
 {
-    entry_of(n, kind_in(w), class_in(w), dip_in(w), end_in(w))
+    (c < n) & (d <= MAX_DIP) & (MIN_END <= e) & (e <= MAX_END)
 }
 
-fn dip_of(x: Entry) -> u16
-    ensures { λ r. ⌜ (r ≡ dipOf x) × (r ≤ 255) ⌝ }
-{
-    match x {
-        Entry::Int => 0,
-        Entry::Top => 0,
-        Entry::Ref {
-            class: _,
-            dip,
-            end: _,
-        } => dip as u16,
-        Entry::Blank => 0,
-        Entry::Malformed => 0,
-    }
-}
-
-fn end_of(x: Entry) -> u16
-    ensures { λ r. ⌜ (r ≡ endOf x) × (r ≤ 255) ⌝ }
-{
-    match x {
-        Entry::Int => 64,
-        Entry::Top => 64,
-        Entry::Ref {
-            class: _,
-            dip: _,
-            end,
-        } => end as u16,
-        Entry::Blank => 64,
-        Entry::Malformed => 64,
-    }
-}
-
-pub fn is_int(x: Entry) -> bool
-    ensures { λ r. ⌜ r ≡ isInt x ⌝ }
-{
-    match x {
-        Entry::Int => true,
-        Entry::Top => false,
-        Entry::Ref {
-            class: _,
-            dip: _,
-            end: _,
-        } => false,
-        Entry::Blank => false,
-        Entry::Malformed => false,
-    }
-}
-
-pub fn is_top(x: Entry) -> bool
-    ensures { λ r. ⌜ r ≡ isTop x ⌝ }
-{
-    match x {
-        Entry::Int => false,
-        Entry::Top => true,
-        Entry::Ref {
-            class: _,
-            dip: _,
-            end: _,
-        } => false,
-        Entry::Blank => false,
-        Entry::Malformed => false,
-    }
-}
-
-fn is_blank(x: Entry) -> bool
-    ensures { λ r. ⌜ r ≡ isBlank x ⌝ }
-{
-    match x {
-        Entry::Int => false,
-        Entry::Top => false,
-        Entry::Ref {
-            class: _,
-            dip: _,
-            end: _,
-        } => false,
-        Entry::Blank => true,
-        Entry::Malformed => false,
-    }
-}
-
-fn is_malformed(x: Entry) -> bool
-    ensures { λ r. ⌜ r ≡ isMalformed x ⌝ }
-{
-    match x {
-        Entry::Int => false,
-        Entry::Top => false,
-        Entry::Ref {
-            class: _,
-            dip: _,
-            end: _,
-        } => false,
-        Entry::Blank => false,
-        Entry::Malformed => true,
-    }
-}
-
-fn is_reference(n: u8, w: u32) -> bool
-    ensures { λ r. ⌜ r ≡ (eqb (w / 16777216) 3 && pairOk n (w / 65536 % 256) (w / 256 % 256) (w % 256)) ⌝ }
+pub fn is_reference(n: u8, w: u32) -> bool
+    ensures { λ r. ⌜ r ≡ isReference (entryFrom n w) ⌝ }
 {
     (kind_in(w) == 3) & pair_ok(n, class_in(w), dip_in(w), end_in(w))
 }
 
-// Whether w is a type. Every entry of a bundle is asked, so none is taken apart for it.
-pub fn typed(n: u8, w: u32) -> bool
-    ensures { λ r. ⌜ r ≡ isType (entryFrom n w) ⌝ }
+pub fn is_int(n: u8, w: u32) -> bool
+    ensures { λ r. ⌜ r ≡ isInt (entryFrom n w) ⌝ }
 {
-    (w == INT_WORD) | (w == TOP_WORD) | is_reference(n, w)
+    w == INT_WORD
 }
 
-pub fn blank(n: u8, w: u32) -> bool
+pub fn is_top(n: u8, w: u32) -> bool
+    ensures { λ r. ⌜ r ≡ isTop (entryFrom n w) ⌝ }
+{
+    w == TOP_WORD
+}
+
+pub fn is_blank(n: u8, w: u32) -> bool
     ensures { λ r. ⌜ r ≡ isBlank (entryFrom n w) ⌝ }
 {
     w == 0
 }
 
-fn same(c: u8, d: u8) -> bool
-    ensures { λ r. ⌜ r ≡ eqb c d ⌝ }
+// Every entry of a bundle is asked this, so it is told without a branch.
+pub fn is_type(n: u8, w: u32) -> bool
+    ensures { λ r. ⌜ r ≡ isType (entryFrom n w) ⌝ }
 {
-    c == d
+    is_int(n, w) | is_top(n, w) | is_reference(n, w)
 }
 
-pub fn is_of(c: u8, x: Entry) -> bool
-    ensures { λ r. ⌜ r ≡ isOf c x ⌝ }
+fn kind_of(n: u8, w: u32) -> u8
+    ensures { λ r. ⌜ r ≡ kindOf (entryFrom n w) ⌝ }
 {
-    match x {
-        Entry::Int => false,
-        Entry::Top => false,
-        Entry::Ref {
-            class,
-            dip: _,
-            end: _,
-        } => same(c, class),
-        Entry::Blank => false,
-        Entry::Malformed => false,
+    if is_reference(n, w) {
+        return 3;
+    }
+    if is_int(n, w) {
+        return 1;
+    }
+    if is_top(n, w) {
+        return 2;
+    }
+    if is_blank(n, w) { 0 } else { 4 }
+}
+
+fn class_of(n: u8, w: u32) -> u8
+    ensures { λ r. ⌜ r ≡ classOf (entryFrom n w) ⌝ }
+{
+    if is_reference(n, w) { class_in(w) } else { 0 }
+}
+
+fn dip_of(n: u8, w: u32) -> u16
+    ensures { λ r. ⌜ (r ≡ dipOf (entryFrom n w)) × (r ≤ 255) ⌝ }
+{
+    if is_reference(n, w) {
+        dip_in(w) as u16
+    } else {
+        0
     }
 }
 
-pub fn argument_entry(descriptor: u8) -> Entry
-    ensures { λ r. ⌜ r ≡ argumentEntry descriptor ⌝ }
+fn end_of(n: u8, w: u32) -> u16
+    ensures { λ r. ⌜ (r ≡ endOf (entryFrom n w)) × (r ≤ 255) ⌝ }
+{
+    if is_reference(n, w) {
+        end_in(w) as u16
+    } else {
+        64
+    }
+}
+
+// A reference of class c.
+pub fn is_of(n: u8, c: u8, w: u32) -> bool
+    ensures { λ r. ⌜ r ≡ isOf c (entryFrom n w) ⌝ }
+{
+    is_reference(n, w) & (class_of(n, w) == c)
+}
+
+// An entry that matches a descriptor.
+pub fn matches(n: u8, descriptor: u8, w: u32) -> bool
+    ensures { λ r. ⌜ r ≡ matches descriptor (entryFrom n w) ⌝ }
 {
     if descriptor == INT {
-        return Entry::Int;
+        return is_int(n, w);
     }
-    Entry::Ref {
-        class: descriptor,
-        dip: 0,
-        end: NO_END,
-    }
+    is_of(n, descriptor, w)
 }
 
-pub fn matches(descriptor: u8, x: Entry) -> bool
-    ensures { λ r. ⌜ r ≡ matches descriptor x ⌝ }
+pub fn may_go(n: u8, w: u32) -> bool
+    ensures { λ r. ⌜ r ≡ mayGo (entryFrom n w) ⌝ }
+{
+    64 <= end_of(n, w)
+}
+
+// v takes w, pairs aside.
+fn takes(n: u8, v: u32, w: u32) -> bool
+    ensures { λ r. ⌜ r ≡ takes (entryFrom n v) (entryFrom n w) ⌝ }
+{
+    if is_top(n, v) {
+        return is_type(n, w);
+    }
+    (kind_of(n, w) == kind_of(n, v)) & (class_of(n, w) == class_of(n, v))
+}
+
+// The one comparison: a place that takes what comes or not, the pair (d, e) that comes, and the pair (x, y) that is wanted.
+fn compared(taken: bool, d: u16, e: u16, x: u16, y: u16) -> u8
+    ensures { λ r. ⌜ r ≡ refuse taken 1 (refuse (leb x d) 2 (refuse (leb y e) 3 0)) ⌝ }
+{
+    if !taken {
+        return 1;
+    }
+    if d < x {
+        return 2;
+    }
+    if e < y {
+        return 3;
+    }
+    0
+}
+
+// w against v as it stands.
+pub fn compare(n: u8, w: u32, v: u32) -> u8
+    ensures { λ r. ⌜ r ≡ compare (entryFrom n w) (want (entryFrom n v)) ⌝ }
+{
+    compared(
+        takes(n, v, w),
+        dip_of(n, w),
+        end_of(n, w),
+        dip_of(n, v),
+        end_of(n, v),
+    )
+}
+
+fn less(d: u16) -> u16
+    ensures { λ r. ⌜ r ≡ d - 1 ⌝ }
+{
+    if d == 0 {
+        return 0;
+    }
+    d - 1
+}
+
+// monitorenter: w becomes v.
+pub fn compare_entered(n: u8, w: u32, v: u32) -> u8
+    ensures { λ r. ⌜ r ≡ compare (entryFrom n w) (wantEntered (entryFrom n v)) ⌝ }
+{
+    compared(
+        takes(n, v, w),
+        dip_of(n, w),
+        end_of(n, w),
+        less(dip_of(n, v)),
+        end_of(n, v) + 1,
+    )
+}
+
+// monitorexit: w becomes v.
+pub fn compare_left(n: u8, w: u32, v: u32) -> u8
+    ensures { λ r. ⌜ r ≡ compare (entryFrom n w) (wantLeft (entryFrom n v)) ⌝ }
+{
+    compared(
+        takes(n, v, w),
+        dip_of(n, w),
+        end_of(n, w),
+        dip_of(n, v) + 1,
+        less(end_of(n, v)),
+    )
+}
+
+fn both_ends(n: u8, v: u32, u: u32) -> u16
+    ensures { λ r. ⌜ r ≡ endOf (entryFrom n v) + endOf (entryFrom n u) - 64 ⌝ }
+{
+    let e = end_of(n, v) + end_of(n, u);
+    if e < 64 {
+        return 0;
+    }
+    e - 64
+}
+
+// load: w goes to v and to u.
+pub fn compare_both(n: u8, w: u32, v: u32, u: u32) -> u8
+    ensures { λ r. ⌜ r ≡ compare (entryFrom n w) (wantBoth (entryFrom n v) (entryFrom n u)) ⌝ }
+{
+    compared(
+        takes(n, v, w) & takes(n, u, w),
+        dip_of(n, w),
+        end_of(n, w),
+        dip_of(n, v) + dip_of(n, u),
+        both_ends(n, v, u),
+    )
+}
+
+// Int against v.
+pub fn compare_int(n: u8, v: u32) -> u8
+    ensures { λ r. ⌜ r ≡ compare Int (want (entryFrom n v)) ⌝ }
+{
+    if is_int(n, v) | is_top(n, v) { 0 } else { 1 }
+}
+
+// A class with (0,0) against v.
+pub fn compare_made(n: u8, c: u8, v: u32) -> u8
+    ensures { λ r. ⌜ r ≡ compare (Ref c 0 noEnd) (want (entryFrom n v)) ⌝ }
+{
+    compared(
+        is_top(n, v) | is_of(n, c, v),
+        0,
+        64,
+        dip_of(n, v),
+        end_of(n, v),
+    )
+}
+
+// An argument as its type against v.
+pub fn compare_argument(n: u8, descriptor: u8, v: u32) -> u8
+    ensures { λ r. ⌜ r ≡ compare (argumentEntry descriptor) (want (entryFrom n v)) ⌝ }
 {
     if descriptor == INT {
-        return is_int(x);
+        return compare_int(n, v);
     }
-    is_of(descriptor, x)
-}
-
-pub fn int_fits(y: Entry) -> bool
-    ensures { λ r. ⌜ r ≡ intFits y ⌝ }
-{
-    match y {
-        Entry::Int => true,
-        Entry::Top => true,
-        Entry::Ref {
-            class: _,
-            dip: _,
-            end: _,
-        } => false,
-        Entry::Blank => false,
-        Entry::Malformed => false,
-    }
-}
-
-fn end_goes(e: u8) -> bool
-    ensures { λ r. ⌜ r ≡ leb noEnd e ⌝ }
-{
-    NO_END <= e
-}
-
-fn pair_fits(c: u8, d: u8, e: u8, c2: u8, d2: u8, e2: u8) -> bool
-    ensures { λ r. ⌜ r ≡ pairFits c d e c2 d2 e2 ⌝ }
-{
-    (c == c2) & (d2 <= d) & (e2 <= e)
-}
-
-fn ref_fits(c: u8, d: u8, e: u8, y: Entry) -> bool
-    ensures { λ r. ⌜ r ≡ refFits c d e y ⌝ }
-{
-    match y {
-        Entry::Int => false,
-        Entry::Top => end_goes(e),
-        Entry::Ref { class, dip, end } => pair_fits(c, d, e, class, dip, end),
-        Entry::Blank => false,
-        Entry::Malformed => false,
-    }
-}
-
-// x fits y.
-pub fn entry_fits(x: Entry, y: Entry) -> bool
-    ensures { λ r. ⌜ r ≡ entryFits x y ⌝ }
-{
-    match x {
-        Entry::Int => int_fits(y),
-        Entry::Top => is_top(y),
-        Entry::Ref { class, dip, end } => ref_fits(class, dip, end, y),
-        Entry::Blank => is_blank(y),
-        Entry::Malformed => is_malformed(y),
-    }
-}
-
-// The entry that w is fits the one that v is.
-pub fn fits(n: u8, w: u32, v: u32) -> bool
-    ensures { λ r. ⌜ r ≡ entryFits (entryFrom n w) (entryFrom n v) ⌝ }
-{
-    entry_fits(entry_from(n, w), entry_from(n, v))
-}
-
-pub fn may_go(x: Entry) -> bool
-    ensures { λ r. ⌜ r ≡ mayGo x ⌝ }
-{
-    match x {
-        Entry::Int => true,
-        Entry::Top => true,
-        Entry::Ref {
-            class: _,
-            dip: _,
-            end,
-        } => end_goes(end),
-        Entry::Blank => false,
-        Entry::Malformed => false,
-    }
-}
-
-fn goes_as(c: u8, y: Entry) -> bool
-    ensures { λ r. ⌜ r ≡ goesAs c y ⌝ }
-{
-    match y {
-        Entry::Int => false,
-        Entry::Top => true,
-        Entry::Ref {
-            class,
-            dip: _,
-            end: _,
-        } => same(c, class),
-        Entry::Blank => false,
-        Entry::Malformed => false,
-    }
-}
-
-fn pair_splits(c: u8, d: u8, e: u8, x: Entry, y: Entry) -> bool
-    ensures { λ r. ⌜ r ≡ pairSplits c d e x y ⌝ }
-{
-    goes_as(c, x)
-        & goes_as(c, y)
-        & (dip_of(x) + dip_of(y) <= d as u16)
-        & (end_of(x) + end_of(y) <= (e as u16) + 64)
-}
-
-// load: v goes to the next variable x and to the new top y.
-pub fn load_splits(v: Entry, x: Entry, y: Entry) -> bool
-    ensures { λ r. ⌜ r ≡ loadSplits v x y ⌝ }
-{
-    match v {
-        Entry::Int => int_fits(x) & int_fits(y),
-        Entry::Top => is_top(x) & is_top(y),
-        Entry::Ref { class, dip, end } => pair_splits(class, dip, end, x, y),
-        Entry::Blank => false,
-        Entry::Malformed => false,
-    }
-}
-
-fn pair_enters(c: u8, d: u8, e: u8, y: Entry) -> bool
-    ensures { λ r. ⌜ r ≡ pairEnters c d e y ⌝ }
-{
-    goes_as(c, y) & (dip_of(y) <= (d as u16) + 1) & (end_of(y) + 1 <= e as u16)
-}
-
-// monitorenter: x becomes y.
-pub fn enter_moves(x: Entry, y: Entry) -> bool
-    ensures { λ r. ⌜ r ≡ enterMoves x y ⌝ }
-{
-    match x {
-        Entry::Int => false,
-        Entry::Top => false,
-        Entry::Ref { class, dip, end } => pair_enters(class, dip, end, y),
-        Entry::Blank => false,
-        Entry::Malformed => false,
-    }
-}
-
-fn pair_exits(c: u8, d: u8, e: u8, y: Entry) -> bool
-    ensures { λ r. ⌜ r ≡ pairExits c d e y ⌝ }
-{
-    goes_as(c, y) & (dip_of(y) + 1 <= d as u16) & (end_of(y) <= (e as u16) + 1)
-}
-
-// monitorexit: x becomes y.
-pub fn exit_moves(x: Entry, y: Entry) -> bool
-    ensures { λ r. ⌜ r ≡ exitMoves x y ⌝ }
-{
-    match x {
-        Entry::Int => false,
-        Entry::Top => false,
-        Entry::Ref { class, dip, end } => pair_exits(class, dip, end, y),
-        Entry::Blank => false,
-        Entry::Malformed => false,
-    }
+    compare_made(n, descriptor, v)
 }

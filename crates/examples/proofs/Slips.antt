@@ -2,7 +2,7 @@
 use mathlib.Core.List.{[], _∷_, map}
 use mathlib.Core.Path.{_≡_, refl}
 use mathlib.Core.Bool.{true}
-use Rattle.structure.specs.Verdicts.{verdict}
+use Rattle.structure.specs.Verdicts.{ruleFails}
 use Rattle.ground.specs.Bytes.{quad}
 use Rattle.ground.specs.Bounded.{allBelow, firstBelow, countBelow, setBelow, fillFrom}
 use Rattle.ground.specs.Chain.{refuse, orThen, scan}
@@ -12,11 +12,12 @@ use Rattle.bundle.specs.Program.{methodOf, methodAt, programOf}
 use Rattle.structure.specs.Conditions.{lengthOk, trailerOk, directoryOk, mainOk, codeOk, limitsOk, descriptorOk, descriptorsOk, addressOk}
 use Rattle.structure.specs.Structure.{headOf, shapeOf, shapeAt, shapesOf, layoutOf, tableAt, tableOf, tableOfClass, tablesOf, structureOf}
 use Rattle.entries.specs.Entries.{zeros, pairOk, entryOf, entryFrom, argumentEntry, matches}
-use Rattle.entries.specs.Fits.{pairFits, pairSplits, pairEnters, pairExits}
+use Rattle.entries.specs.Fits.{takes, compare}
 use Rattle.rows.specs.Rows.{startBehind, rowStart, variableWord, depthAt, stackWord, variableAt, stackAt}
-use Rattle.matching.specs.Matching.{varsFit, othersFit, depthsFit, stackFits, restFits, restFitsBut, varsGo, stackGoes, handledBy, throws}
+use Rattle.matching.specs.Matching.{wantsLoaded, edgeShort, varsGo, stackGoes}
 use Rattle.forms.specs.Forms.{entryFormed, varsFormed, stackFormed, rowFormed, firstVar, firstVars, firstRow}
-use Rattle.rules.specs.Rules.{incRule, popRule, push0Rule, loadRule, storeRule, ifRule, enterRule, exitRule, throwRule, newRule, argumentGoes, objectGoes, argumentsGo, startRule, returnRule}
+use Rattle.rules.specs.Rule.{asked, shortOf, holds, why}
+use Rattle.rules.specs.Rules.{incRule, popRule, push0Rule, loadRule, storeRule, ifRule, enterRule, exitRule, throwAsks, thrown, throwRule, newRule, argumentGoes, objectGoes, argumentsGo, startRule, returnRule}
 use Rattle.verifier.specs.Verdict.{formAt, formsOf, formsOfClass, formsOfAll, ruleVerdict, rulesOf, rulesOfClass, rulesOfAll, verdictOf}
 use Rattle.threads.specs.Threads.{topped, pushed, popped, stored, ended, started}
 use Rattle.state.specs.State.{withObject, othersFree, holdsNothing, lowestFree}
@@ -27,14 +28,14 @@ use Rattle.examples.specs.Runs.{answersFrom, answers}
 use Rattle.examples.specs.Slips.{Slip, slips}
 
 -- document 01 refuses each at the address, the weakened rule lets it through there, and the schedule ends in fault 14 or 15
-pub refused : map (λ (s : Slip). verdictOf (s .bundle)) slips ≡ map (λ (s : Slip). verdict 9 0 (s .address)) slips
-unfolding allBelow firstBelow countBelow setBelow fillFrom quad refuse orThen scan zeroed instructionOf targetOk lastOk instructionOk headAt classAt width size recordFits partOf codeFrom instructionPlace codeAt instructionAt methodOf methodAt programOf lengthOk trailerOk directoryOk mainOk codeOk limitsOk descriptorOk descriptorsOk addressOk headOf shapeOf shapeAt shapesOf layoutOf tableAt tableOf tableOfClass tablesOf structureOf zeros pairOk entryOf entryFrom argumentEntry matches pairFits pairSplits pairEnters pairExits startBehind rowStart variableWord depthAt stackWord variableAt stackAt varsFit othersFit depthsFit stackFits restFits restFitsBut varsGo stackGoes handledBy throws entryFormed varsFormed stackFormed rowFormed firstVar firstVars firstRow incRule popRule push0Rule loadRule storeRule ifRule enterRule exitRule throwRule newRule argumentGoes objectGoes argumentsGo startRule returnRule formAt formsOf formsOfClass formsOfAll ruleVerdict rulesOf rulesOfClass rulesOfAll verdictOf topped pushed popped stored ended started withObject othersFree holdsNothing lowestFree placesRefer placedOk liveOk threadOk threadsOk objectsOk countOk threadCountsOk countsOk soleHolder soleHolders stateOk incStep popStep push0Step loadStep storeStep ifStep enterObject enterStep exitObject exitStep endStep throwStep makeStep newStep isArgument argumentsOk startedBy startStep freshOf runOf stepOf
+pub refused : map (λ (s : Slip). verdictOf (s .bundle)) slips ≡ map (λ (s : Slip). ruleFails 0 (s .address) (s .why)) slips
+unfolding allBelow firstBelow countBelow setBelow fillFrom quad refuse orThen scan zeroed instructionOf targetOk lastOk instructionOk headAt classAt width size recordFits partOf codeFrom instructionPlace codeAt instructionAt methodOf methodAt programOf lengthOk trailerOk directoryOk mainOk codeOk limitsOk descriptorOk descriptorsOk addressOk headOf shapeOf shapeAt shapesOf layoutOf tableAt tableOf tableOfClass tablesOf structureOf zeros pairOk entryOf entryFrom argumentEntry matches takes compare startBehind rowStart variableWord depthAt stackWord variableAt stackAt wantsLoaded edgeShort varsGo stackGoes entryFormed varsFormed stackFormed rowFormed firstVar firstVars firstRow incRule popRule push0Rule loadRule storeRule ifRule enterRule exitRule throwAsks thrown throwRule newRule argumentGoes objectGoes argumentsGo startRule returnRule asked shortOf holds why formAt formsOf formsOfClass formsOfAll ruleVerdict rulesOf rulesOfClass rulesOfAll verdictOf topped pushed popped stored ended started withObject othersFree holdsNothing lowestFree placesRefer placedOk liveOk threadOk threadsOk objectsOk countOk threadCountsOk countsOk soleHolder soleHolders stateOk incStep popStep push0Step loadStep storeStep ifStep enterObject enterStep exitObject exitStep endStep throwStep makeStep newStep isArgument argumentsOk startedBy startStep freshOf runOf stepOf
 refused = refl
 
 pub let-through : map (λ (s : Slip). s .weakened) slips ≡ true ∷ true ∷ true ∷ true ∷ true ∷ true ∷ []
-unfolding allBelow firstBelow countBelow setBelow fillFrom quad refuse orThen scan zeroed instructionOf targetOk lastOk instructionOk headAt classAt width size recordFits partOf codeFrom instructionPlace codeAt instructionAt methodOf methodAt programOf lengthOk trailerOk directoryOk mainOk codeOk limitsOk descriptorOk descriptorsOk addressOk headOf shapeOf shapeAt shapesOf layoutOf tableAt tableOf tableOfClass tablesOf structureOf zeros pairOk entryOf entryFrom argumentEntry matches pairFits pairSplits pairEnters pairExits startBehind rowStart variableWord depthAt stackWord variableAt stackAt varsFit othersFit depthsFit stackFits restFits restFitsBut varsGo stackGoes handledBy throws entryFormed varsFormed stackFormed rowFormed firstVar firstVars firstRow incRule popRule push0Rule loadRule storeRule ifRule enterRule exitRule throwRule newRule argumentGoes objectGoes argumentsGo startRule returnRule formAt formsOf formsOfClass formsOfAll ruleVerdict rulesOf rulesOfClass rulesOfAll verdictOf topped pushed popped stored ended started withObject othersFree holdsNothing lowestFree placesRefer placedOk liveOk threadOk threadsOk objectsOk countOk threadCountsOk countsOk soleHolder soleHolders stateOk incStep popStep push0Step loadStep storeStep ifStep enterObject enterStep exitObject exitStep endStep throwStep makeStep newStep isArgument argumentsOk startedBy startStep freshOf runOf stepOf
+unfolding allBelow firstBelow countBelow setBelow fillFrom quad refuse orThen scan zeroed instructionOf targetOk lastOk instructionOk headAt classAt width size recordFits partOf codeFrom instructionPlace codeAt instructionAt methodOf methodAt programOf lengthOk trailerOk directoryOk mainOk codeOk limitsOk descriptorOk descriptorsOk addressOk headOf shapeOf shapeAt shapesOf layoutOf tableAt tableOf tableOfClass tablesOf structureOf zeros pairOk entryOf entryFrom argumentEntry matches takes compare startBehind rowStart variableWord depthAt stackWord variableAt stackAt wantsLoaded edgeShort varsGo stackGoes entryFormed varsFormed stackFormed rowFormed firstVar firstVars firstRow incRule popRule push0Rule loadRule storeRule ifRule enterRule exitRule throwAsks thrown throwRule newRule argumentGoes objectGoes argumentsGo startRule returnRule asked shortOf holds why formAt formsOf formsOfClass formsOfAll ruleVerdict rulesOf rulesOfClass rulesOfAll verdictOf topped pushed popped stored ended started withObject othersFree holdsNothing lowestFree placesRefer placedOk liveOk threadOk threadsOk objectsOk countOk threadCountsOk countsOk soleHolder soleHolders stateOk incStep popStep push0Step loadStep storeStep ifStep enterObject enterStep exitObject exitStep endStep throwStep makeStep newStep isArgument argumentsOk startedBy startStep freshOf runOf stepOf
 let-through = refl
 
 pub faults : map (λ (s : Slip). answers (s .bundle) (s .schedule)) slips ≡ map (λ (s : Slip). s .wanted) slips
-unfolding answersFrom allBelow firstBelow countBelow setBelow fillFrom quad refuse orThen scan zeroed instructionOf targetOk lastOk instructionOk headAt classAt width size recordFits partOf codeFrom instructionPlace codeAt instructionAt methodOf methodAt programOf lengthOk trailerOk directoryOk mainOk codeOk limitsOk descriptorOk descriptorsOk addressOk headOf shapeOf shapeAt shapesOf layoutOf tableAt tableOf tableOfClass tablesOf structureOf zeros pairOk entryOf entryFrom argumentEntry matches pairFits pairSplits pairEnters pairExits startBehind rowStart variableWord depthAt stackWord variableAt stackAt varsFit othersFit depthsFit stackFits restFits restFitsBut varsGo stackGoes handledBy throws entryFormed varsFormed stackFormed rowFormed firstVar firstVars firstRow incRule popRule push0Rule loadRule storeRule ifRule enterRule exitRule throwRule newRule argumentGoes objectGoes argumentsGo startRule returnRule formAt formsOf formsOfClass formsOfAll ruleVerdict rulesOf rulesOfClass rulesOfAll verdictOf topped pushed popped stored ended started withObject othersFree holdsNothing lowestFree placesRefer placedOk liveOk threadOk threadsOk objectsOk countOk threadCountsOk countsOk soleHolder soleHolders stateOk incStep popStep push0Step loadStep storeStep ifStep enterObject enterStep exitObject exitStep endStep throwStep makeStep newStep isArgument argumentsOk startedBy startStep freshOf runOf stepOf
+unfolding answersFrom allBelow firstBelow countBelow setBelow fillFrom quad refuse orThen scan zeroed instructionOf targetOk lastOk instructionOk headAt classAt width size recordFits partOf codeFrom instructionPlace codeAt instructionAt methodOf methodAt programOf lengthOk trailerOk directoryOk mainOk codeOk limitsOk descriptorOk descriptorsOk addressOk headOf shapeOf shapeAt shapesOf layoutOf tableAt tableOf tableOfClass tablesOf structureOf zeros pairOk entryOf entryFrom argumentEntry matches takes compare startBehind rowStart variableWord depthAt stackWord variableAt stackAt wantsLoaded edgeShort varsGo stackGoes entryFormed varsFormed stackFormed rowFormed firstVar firstVars firstRow incRule popRule push0Rule loadRule storeRule ifRule enterRule exitRule throwAsks thrown throwRule newRule argumentGoes objectGoes argumentsGo startRule returnRule asked shortOf holds why formAt formsOf formsOfClass formsOfAll ruleVerdict rulesOf rulesOfClass rulesOfAll verdictOf topped pushed popped stored ended started withObject othersFree holdsNothing lowestFree placesRefer placedOk liveOk threadOk threadsOk objectsOk countOk threadCountsOk countsOk soleHolder soleHolders stateOk incStep popStep push0Step loadStep storeStep ifStep enterObject enterStep exitObject exitStep endStep throwStep makeStep newStep isArgument argumentsOk startedBy startStep freshOf runOf stepOf
 faults = refl

@@ -1,15 +1,17 @@
 -- Slips that weaken a rule: for each, the weakened rule, a bundle that it lets through where document 01's rule refuses, and a schedule that then faults.
 use mathlib.Core.List.{List, [], _∷_, _++_}
-use mathlib.Core.Bool.{Bool, _&&_}
-use Prim.Native.Nat.{ℕ, _+_}
+use mathlib.Core.Bool.{Bool, true, _&&_}
+use Prim.Native.Nat.{ℕ, _-_}
 use lib.Dec.{leb}
 use Rattle.ground.specs.Bounded.{allBelow}
 use Rattle.bundle.specs.Container.{classes, classAt, partOf}
-use Rattle.entries.specs.declared.Entry.the-variants.{Ref}
-use Rattle.entries.specs.Entries.{noEnd, endOf, isInt}
-use Rattle.entries.specs.Fits.{entryFits}
+use Rattle.entries.specs.Entries.{Ref}
+use Rattle.entries.specs.Entries.{Entry}
+use Rattle.entries.specs.Entries.{noEnd, endOf, isInt, isReference}
+use Rattle.entries.specs.Fits.{takes, Want}
 use Rattle.rows.specs.Rows.{Row, rowAt}
-use Rattle.matching.specs.Matching.{restFits, restFitsBut, stackGoes}
+use Rattle.matching.specs.Matching.{popped, pushed, stored, wants, wantsAt, edge, stackGoes}
+use Rattle.rules.specs.Rule.{Rule, rule, holds}
 use Rattle.machine.specs.Runs.{Step}
 use Rattle.examples.specs.Runs.{failing, main, i, top, int, none, free, owing, row}
 
@@ -19,31 +21,34 @@ at b l = rowAt (classes b) (classAt b 0) (partOf b (classAt b 0)) l
 
 -- ---- the weakened rules
 -- the pair copied at load instead of split
-abbrev loadCopies : ℕ → ℕ → Row → Row → Bool
-loadCopies vars v x y = entryFits (x .variable v) (y .variable v) && entryFits (x .variable v) (y .stack 0) && restFitsBut vars v 0 1 x y
+abbrev loadCopies : ℕ → Row → Row → Rule
+loadCopies v x y = rule true (edge (pushed (x .variable v) x) (wants y) ∷ [])
 
 -- only the arm that falls through
-abbrev ifOneArm : ℕ → Row → Row → Bool
-ifOneArm vars x y = isInt (x .stack 0) && restFits vars 1 0 x y
+abbrev ifOneArm : Row → Row → Rule
+ifOneArm x y = rule (leb 1 (x .depth) && isInt (x .stack 0)) (edge (popped 1 x) (wants y) ∷ [])
 
 -- a failed new without handler that skips the rule for variables
-abbrev newSkips : ℕ → ℕ → Row → Row → Bool
-newSkips vars c x y = entryFits (Ref c 0 noEnd) (y .stack 0) && restFits vars 0 1 x y && stackGoes x
+abbrev newSkips : ℕ → Row → Row → Rule
+newSkips c x y = rule (stackGoes x) (edge (pushed (Ref c 0 noEnd) x) (wants y) ∷ [])
 
 -- store that doesn't ask the old variable to go
-abbrev storeDrops : ℕ → ℕ → Row → Row → Bool
-storeDrops vars v x y = entryFits (x .stack 0) (y .variable v) && restFitsBut vars v 1 0 x y
+abbrev storeDrops : ℕ → Row → Row → Rule
+storeDrops v x y = rule (leb 1 (x .depth)) (edge (popped 1 (stored v (x .stack 0) x)) (wants y) ∷ [])
 
 -- return with may go at -1
 abbrev goesAtMinusOne : Row → ℕ → Bool
 goesAtMinusOne x j = leb 63 (endOf (x .variable j))
 
-abbrev returnAtMinusOne : ℕ → Row → Bool
-returnAtMinusOne vars x = stackGoes x && allBelow vars (goesAtMinusOne x)
+abbrev returnAtMinusOne : ℕ → Row → Rule
+returnAtMinusOne vars x = rule (stackGoes x && allBelow vars (goesAtMinusOne x)) []
 
 -- exit that doesn't ask d
-abbrev exitWithoutDip : ℕ → ℕ → Row → Row → Bool
-exitWithoutDip vars v x y = leb (endOf (y .variable v)) (endOf (x .variable v) + 1) && restFitsBut vars v 0 0 x y
+abbrev wantLeftFree : Entry → Want
+wantLeftFree y = record { kind = takes y; dip = 0; end = endOf y - 1 }
+
+abbrev exitWithoutDip : ℕ → Row → Row → Rule
+exitWithoutDip v x y = rule (isReference (x .variable v)) (edge x (wantsAt v (wantLeftFree (y .variable v)) y) ∷ [])
 
 -- ---- the bundles: V 1, K 1, but for the first, V 2, K 1
 abbrev one : ℕ → ℕ → ℕ → List ℕ
@@ -107,20 +112,21 @@ kept = locks ++ i 12 0 0 ++ locked ++ one 52 4 68
 abbrev unheld : List ℕ
 unheld = i 9 0 0 ++ i 5 0 0 ++ i 8 0 0 ++ i 12 0 0 ++ row top 0 none ++ row top 1 (free 0) ++ row (free 0) 0 none ++ row (free 0) 0 none ++ one 52 4 68
 
--- what the weakened rule says at the address, where document 01's verdict is 9; and the answers of a schedule
+-- what the weakened rule says at the address, where document 01's verdict is 9 with this why; and the answers of a schedule
 pub record Slip : Type 0 where
   pub bundle : List ℕ
   pub address : ℕ
+  pub why : ℕ
   pub weakened : Bool
   pub schedule : List Step
   pub wanted : List ℕ
 
 abbrev pub slips : List Slip
 slips =
-    record { bundle = copied; address = 4; weakened = loadCopies 2 0 (at copied 4) (at copied 5); schedule = main 7; wanted = 0 ∷ 0 ∷ 0 ∷ 0 ∷ 0 ∷ 0 ∷ 14 ∷ [] }
-    ∷ record { bundle = oneArm; address = 6; weakened = ifOneArm 1 (at oneArm 6) (at oneArm 7); schedule = main 7; wanted = 0 ∷ 0 ∷ 0 ∷ 0 ∷ 0 ∷ 0 ∷ 15 ∷ [] }
-    ∷ record { bundle = skipped; address = 4; weakened = newSkips 1 0 (at skipped 4) (at skipped 5); schedule = main 3 ++ (failing 0 ∷ []); wanted = 0 ∷ 0 ∷ 0 ∷ 15 ∷ [] }
-    ∷ record { bundle = dropped; address = 5; weakened = storeDrops 1 0 (at dropped 5) (at dropped 6); schedule = main 6; wanted = 0 ∷ 0 ∷ 0 ∷ 0 ∷ 0 ∷ 15 ∷ [] }
-    ∷ record { bundle = kept; address = 4; weakened = returnAtMinusOne 1 (at kept 4); schedule = main 4; wanted = 0 ∷ 0 ∷ 0 ∷ 15 ∷ [] }
-    ∷ record { bundle = unheld; address = 3; weakened = exitWithoutDip 1 0 (at unheld 3) (at unheld 4); schedule = main 3; wanted = 0 ∷ 0 ∷ 14 ∷ [] }
+    record { bundle = copied; address = 4; why = 2; weakened = holds 2 (loadCopies 0 (at copied 4) (at copied 5)); schedule = main 7; wanted = 0 ∷ 0 ∷ 0 ∷ 0 ∷ 0 ∷ 0 ∷ 14 ∷ [] }
+    ∷ record { bundle = oneArm; address = 6; why = 3; weakened = holds 1 (ifOneArm (at oneArm 6) (at oneArm 7)); schedule = main 7; wanted = 0 ∷ 0 ∷ 0 ∷ 0 ∷ 0 ∷ 0 ∷ 15 ∷ [] }
+    ∷ record { bundle = skipped; address = 4; why = 0; weakened = holds 1 (newSkips 0 (at skipped 4) (at skipped 5)); schedule = main 3 ++ (failing 0 ∷ []); wanted = 0 ∷ 0 ∷ 0 ∷ 15 ∷ [] }
+    ∷ record { bundle = dropped; address = 5; why = 0; weakened = holds 1 (storeDrops 0 (at dropped 5) (at dropped 6)); schedule = main 6; wanted = 0 ∷ 0 ∷ 0 ∷ 0 ∷ 0 ∷ 15 ∷ [] }
+    ∷ record { bundle = kept; address = 4; why = 0; weakened = holds 1 (returnAtMinusOne 1 (at kept 4)); schedule = main 4; wanted = 0 ∷ 0 ∷ 0 ∷ 15 ∷ [] }
+    ∷ record { bundle = unheld; address = 3; why = 2; weakened = holds 1 (exitWithoutDip 0 (at unheld 3) (at unheld 4)); schedule = main 3; wanted = 0 ∷ 0 ∷ 14 ∷ [] }
     ∷ []

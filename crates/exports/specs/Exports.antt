@@ -10,9 +10,9 @@ use Rattle.machine.specs.declared.Stepped.{Stepped}
 use Rattle.machine.specs.Machine.{freshOf, stepOf}
 use Rattle.exports.specs.declared.Running.{Running}
 
--- the number in the low byte, the class in the next, the address above
+-- the number in the low byte, the class in the next, the address in the two above, why in the upper half
 abbrev pub packed : Verdict → ℕ
-packed v = v .number + 256 * v .class + 65536 * v .address
+packed v = v .number + 256 * v .class + 65536 * v .address + 4294967296 * v .why
 
 -- a schedule byte: the low four bits are the thread, the top bit says that new fails
 abbrev pub who : ℕ → ℕ

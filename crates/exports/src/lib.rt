@@ -16,10 +16,13 @@ struct Running {
 fn pack(v: Verdict) -> u64
     ensures { λ r. ⌜ r ≡ packed v ⌝ }
 {
-    v.number as u64 + 256 * (v.class as u64) + 65536 * (v.address as u64)
+    v.number as u64
+        + 256 * (v.class as u64)
+        + 65536 * (v.address as u64)
+        + 4294967296 * (v.why as u64)
 }
 
-// The verdict on a bundle: the number in the low byte, the class in the next, the address above.
+// The verdict on a bundle: the number in the low byte, the class in the next, the address in the two above, why in the upper half.
 #[no_mangle]
 pub extern "C" fn hveitmar_verdict(b: &[u8]) -> u64
     ensures { λ r. ⌜ r ≡ packed (verdictOf (now (b .entry))) ⌝ }

@@ -9,7 +9,7 @@ use instructions::Addr;
 fn var_formed(n: u8, k: Class, r: &[u8], p: u32, i: u8) -> bool
     ensures { λ o. ⌜ o ≡ varFormed (rowFrom n (now (r .entry)) (k .vars) p) i ⌝ }
 {
-    entries::typed(n, rows::variable_word(r, p, k.vars, k.limit, i))
+    entries::is_type(n, rows::variable_word(r, p, k.vars, k.limit, i))
 }
 
 fn vars_formed(n: u8, k: Class, r: &[u8], p: u32) -> bool
@@ -31,9 +31,9 @@ fn entry_formed(n: u8, k: Class, r: &[u8], p: u32, d: u8, j: u8) -> bool
 {
     let w = rows::stack_word(r, p, k.vars, k.limit, j);
     if j < d {
-        return entries::typed(n, w);
+        return entries::is_type(n, w);
     }
-    entries::blank(n, w)
+    entries::is_blank(n, w)
 }
 
 fn stack_formed(n: u8, k: Class, r: &[u8], p: u32) -> bool
@@ -71,11 +71,11 @@ pub fn row_formed(n: u8, k: Class, r: &[u8], l: Addr) -> bool
 fn first_var(n: u8, k: Class, r: &[u8], p: u32, i: u8) -> bool
     ensures { λ o. ⌜ o ≡ firstVar (k .args) (at (now (r .entry))) (rowFrom n (now (r .entry)) (k .vars) p) i ⌝ }
 {
-    let x = rows::variable_at(n, k, r, p, i);
+    let w = rows::variable_word(r, p, k.vars, k.limit, i);
     if i < k.args {
-        return entries::entry_fits(entries::argument_entry(ground::byte(r, i as usize)), x);
+        return entries::compare_argument(n, ground::byte(r, i as usize), w) == 0;
     }
-    entries::is_top(x)
+    entries::is_top(n, w)
 }
 
 fn first_vars(n: u8, k: Class, r: &[u8], p: u32) -> bool

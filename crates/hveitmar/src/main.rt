@@ -9,6 +9,14 @@ fn print_accepted(classes: u8) {
     io::write_all(STDOUT_FILENO, b"\n");
 }
 
+// Which half of a pair was short: for verdict 9 only.
+fn print_why(v: Verdict) {
+    if v.number == 9 {
+        io::write_all(STDOUT_FILENO, b" why ");
+        io::print_decimal(STDOUT_FILENO, v.why as u64);
+    }
+}
+
 fn print_refused(v: Verdict) {
     io::write_all(STDOUT_FILENO, b"refused ");
     io::print_decimal(STDOUT_FILENO, v.number as u64);
@@ -16,6 +24,7 @@ fn print_refused(v: Verdict) {
     io::print_decimal(STDOUT_FILENO, v.class as u64);
     io::write_all(STDOUT_FILENO, b" address ");
     io::print_decimal(STDOUT_FILENO, v.address as u64);
+    print_why(v);
     io::write_all(STDOUT_FILENO, b"\n");
 }
 

@@ -1,43 +1,90 @@
--- Document 01, the words that the rules share: the rest fits, may go, with or without a handler. x is row l, y another row.
-use mathlib.Core.Bool.{Bool, cond, _&&_, _||_}
-use Prim.Native.Nat.{ℕ, _+_, _-_}
-use lib.Dec.{leb, eqb}
+-- What the rules share: the row after an instruction, what a row wants, and an edge from the one to the other (document 01, the rules at each address; document 02, Q-1).
+use mathlib.Core.Bool.{Bool, cond, _&&_, not}
+use Prim.Native.Nat.{ℕ, zero, suc, _+_, _-_}
+use lib.Dec.{eqb}
 use Rattle.ground.specs.Bounded.{allBelow}
-use Rattle.entries.specs.Fits.{entryFits, mayGo}
+use Rattle.ground.specs.Chain.{orThen, scan}
+use Rattle.entries.specs.Entries.{Entry}
+use Rattle.entries.specs.Entries.{isReference}
+use Rattle.entries.specs.Fits.{Want, mayGo, compare, want, wantBoth, wantNothing}
 use Rattle.rows.specs.Rows.{Row}
 
-abbrev pub varFits : Row → Row → ℕ → Bool
-varFits x y i = entryFits (x .variable i) (y .variable i)
+-- ---- the row after an instruction: what the machine's pop, push and store do to values, done to entries
+-- e on top of f
+abbrev pub under {ℓ} : {A : Type ℓ} → A → (ℕ → A) → ℕ → A
+under e f zero = e
+under e f (suc j) = f j
 
--- each variable fits
-unfoldable pub varsFit : ℕ → Row → Row → Bool
-varsFit vars x y = allBelow vars (varFits x y)
+-- a entries gone from the top
+abbrev pub popped : ℕ → Row → Row
+popped a x = record { variable = x .variable; depth = x .depth - a; stack = λ j. x .stack (a + j) }
 
-abbrev pub otherFits : ℕ → Row → Row → ℕ → Bool
-otherFits v x y i = eqb i v || varFits x y i
+abbrev pub pushed : Entry → Row → Row
+pushed e x = record { variable = x .variable; depth = x .depth + 1; stack = under e (x .stack) }
 
--- each variable but v, which its rule names, fits
-unfoldable pub othersFit : ℕ → ℕ → Row → Row → Bool
-othersFit vars v x y = allBelow vars (otherFits v x y)
+abbrev pub stored : ℕ → Entry → Row → Row
+stored v e x = record { variable = λ i. cond (eqb i v) e (x .variable i); depth = x .depth; stack = x .stack }
 
--- depths come out exact: a entries go from the top, and b come in their stead
-unfoldable pub depthsFit : ℕ → ℕ → Row → Row → Bool
-depthsFit a b x y = leb a (x .depth) && eqb (y .depth + a) (x .depth + b)
+abbrev pub emptied : Row → Row
+emptied x = record { variable = x .variable; depth = 0; stack = x .stack }
 
-abbrev pub restEntryFits : ℕ → ℕ → Row → Row → ℕ → Bool
-restEntryFits a b x y j = entryFits (x .stack (a + j)) (y .stack (b + j))
+-- ---- what a row wants, place by place
+pub record Wants : Type 0 where
+  pub variable : ℕ → Want
+  pub depth : ℕ
+  pub stack : ℕ → Want
 
--- each stack entry not named fits at its place in the other row: an entry keeps its place counted from the bottom
-unfoldable pub stackFits : ℕ → ℕ → Row → Row → Bool
-stackFits a b x y = depthsFit a b x y && allBelow (x .depth - a) (restEntryFits a b x y)
+-- each entry as it stands
+abbrev pub wants : Row → Wants
+wants y = record { variable = λ i. want (y .variable i); depth = y .depth; stack = λ j. want (y .stack j) }
 
--- "the rest fits": each entry not named, at its place in the next row
-unfoldable pub restFits : ℕ → ℕ → ℕ → Row → Row → Bool
-restFits vars a b x y = stackFits a b x y && varsFit vars x y
+-- .. but for the variable v, of which the instruction says what is wanted: monitorenter and monitorexit
+abbrev pub wantsAt : ℕ → Want → Row → Wants
+wantsAt v w y = record { variable = λ i. cond (eqb i v) w (want (y .variable i)); depth = y .depth; stack = λ j. want (y .stack j) }
 
-unfoldable pub restFitsBut : ℕ → ℕ → ℕ → ℕ → Row → Row → Bool
-restFitsBut vars v a b x y = stackFits a b x y && othersFit vars v x y
+-- load v: a non-reference fits both; a reference is compared with both places, summed, once at v, and of the new top nothing more is wanted
+unfoldable pub wantsLoaded : ℕ → Row → Row → Wants
+wantsLoaded v x y =
+    record {
+      variable = cond (isReference (x .variable v)) (wantsAt v (wantBoth (y .variable v) (y .stack 0)) y .variable) (wants y .variable);
+      depth = y .depth;
+      stack = cond (isReference (x .variable v)) (under wantNothing (λ j. want (y .stack (suc j)))) (wants y .stack);
+    }
 
+-- ---- an edge: what the row after the instruction offers, and what the row that is reached wants
+pub record Edge : Type 0 where
+  pub offered : Row
+  pub wanted : Wants
+
+abbrev pub edge : Row → Wants → Edge
+edge x w = record { offered = x; wanted = w }
+
+-- depths must come out exact
+abbrev pub meets : Edge → Bool
+meets e = eqb (e .offered .depth) (e .wanted .depth)
+
+-- numbers of comparisons, in order: the first that isn't 0
+abbrev pub isShort : ℕ → Bool
+isShort w = not (eqb w 0)
+
+abbrev pub thenShort : ℕ → ℕ → ℕ
+thenShort first second = orThen isShort first second
+
+abbrev pub firstShort : ℕ → (ℕ → ℕ) → ℕ
+firstShort n f = scan isShort 0 n f
+
+-- an edge's comparisons at variable i and at stack entry j
+abbrev pub variableShort : Edge → ℕ → ℕ
+variableShort e i = compare (e .offered .variable i) (e .wanted .variable i)
+
+abbrev pub entryShort : Edge → ℕ → ℕ
+entryShort e j = compare (e .offered .stack j) (e .wanted .stack j)
+
+-- variables ascending, then the stack from the top
+unfoldable pub edgeShort : ℕ → Edge → ℕ
+edgeShort vars e = thenShort (firstShort vars (variableShort e)) (firstShort (e .offered .depth) (entryShort e))
+
+-- ---- may go
 abbrev pub varGoes : Row → ℕ → Bool
 varGoes x i = mayGo (x .variable i)
 
@@ -51,11 +98,3 @@ entryGoes x j = mayGo (x .stack j)
 -- every stack entry may go
 unfoldable pub stackGoes : Row → Bool
 stackGoes x = allBelow (x .depth) (entryGoes x)
-
--- with a handler, each variable fits the handler's row y, whose depth is 0
-unfoldable pub handledBy : ℕ → Row → Row → Bool
-handledBy vars x y = eqb (y .depth) 0 && varsFit vars x y
-
--- .. with none (h is 0), each variable may go
-unfoldable pub throws : ℕ → ℕ → Row → Row → Bool
-throws vars h x y = cond (eqb h 0) (varsGo vars x) (handledBy vars x y)

@@ -1,126 +1,240 @@
-// Two rows of one record held against each other, each given by where it begins: the rest fits, may go, with or without a handler.
+// Two rows of one record held against each other, each given by where it begins: the comparisons along an edge, in their order; and may go.
 ghost use mathlib.Core.Path.{_≡_};
-ghost use Prim.Native.Nat.{_+_, _≤_};
-ghost use Rattle.rows.specs.Rows.{rowFrom};
-ghost use Rattle.entries.specs.Entries.{entryFrom};
-ghost use Rattle.entries.specs.Fits.{entryFits};
-ghost use Rattle.matching.specs.Matching.{varFits, varsFit, otherFits, othersFit, depthsFit, restEntryFits, stackFits, restFits, restFitsBut, varGoes, varsGo, entryGoes, stackGoes, handledBy, throws};
+ghost use Prim.Native.Nat.{_+_, _-_, _≤_};
+ghost use Rattle.entries.specs.Entries.{Int, Ref, noEnd, entryFrom};
+ghost use Rattle.entries.specs.Fits.{compare, want, wantEntered, wantLeft};
+ghost use Rattle.rows.specs.Rows.{depthAt, rowFrom};
+ghost use Rattle.matching.specs.Matching.{popped, pushed, stored, emptied, wants, wantsAt, wantsLoaded, edge, edgeShort, varGoes, varsGo, entryGoes, stackGoes};
+ghost use Rattle.matching.specs.Passes.{varShort, otherShort, restShort, varsPass, othersPass, restPass, pass, passBut};
 use bundle::Class;
 
+// The depth of the row that begins at p.
+pub fn depth_of(n: u8, k: Class, r: &[u8], p: u32) -> u16
+    ensures { λ d. ⌜ (d ≡ depthAt (now (r .entry)) p (k .vars)) × (d ≤ 255) ⌝ }
+{
+    rows::depth_at(r, p, k.vars, k.limit) as u16
+}
+
+// .. and what is left of it when a entries have gone.
+pub fn depth_left(n: u8, k: Class, r: &[u8], a: u8, p: u32) -> u16
+    ensures { λ d. ⌜ (d ≡ depthAt (now (r .entry)) p (k .vars) - a) × (d ≤ 255) ⌝ }
+{
+    let d = depth_of(n, k, r, p);
+    if d < a as u16 {
+        return 0;
+    }
+    d - a as u16
+}
+
 // Most entries stay as they are: equal bytes fit, and only others are taken apart.
-fn word_fits(n: u8, w: u32, v: u32) -> bool
-    ensures { λ o. ⌜ o ≡ entryFits (entryFrom n w) (entryFrom n v) ⌝ }
+fn word_short(n: u8, w: u32, v: u32) -> u8
+    ensures { λ o. ⌜ o ≡ compare (entryFrom n w) (want (entryFrom n v)) ⌝ }
 {
     if w == v {
-        return true;
+        return 0;
     }
-    entries::fits(n, w, v)
+    entries::compare(n, w, v)
 }
 
-fn var_fits(n: u8, k: Class, r: &[u8], p: u32, q: u32, i: u8) -> bool
-    ensures { λ o. ⌜ o ≡ varFits (rowFrom n (now (r .entry)) (k .vars) p) (rowFrom n (now (r .entry)) (k .vars) q) i ⌝ }
+// The shortcut is written out here: with a single caller the comparison would be compiled into every turn of the loops.
+fn var_short(n: u8, k: Class, r: &[u8], p: u32, q: u32, i: u8) -> u8
+    ensures { λ o. ⌜ o ≡ varShort (rowFrom n (now (r .entry)) (k .vars) p) (rowFrom n (now (r .entry)) (k .vars) q) i ⌝ }
 {
-    word_fits(
-        n,
-        rows::variable_word(r, p, k.vars, k.limit, i),
-        rows::variable_word(r, q, k.vars, k.limit, i),
-    )
+    let w = rows::variable_word(r, p, k.vars, k.limit, i);
+    let v = rows::variable_word(r, q, k.vars, k.limit, i);
+    if w == v {
+        return 0;
+    }
+    entries::compare(n, w, v)
 }
 
-fn vars_fit(n: u8, k: Class, r: &[u8], p: u32, q: u32) -> bool
-    ensures { λ o. ⌜ o ≡ varsFit (k .vars) (rowFrom n (now (r .entry)) (k .vars) p) (rowFrom n (now (r .entry)) (k .vars) q) ⌝ }
+fn vars_pass(n: u8, k: Class, r: &[u8], p: u32, q: u32) -> u8
+    ensures { λ o. ⌜ o ≡ varsPass (k .vars) (rowFrom n (now (r .entry)) (k .vars) p) (rowFrom n (now (r .entry)) (k .vars) q) ⌝ }
 {
     let vars = k.vars;
     for i in 0..vars {
-        if !var_fits(n, k, r, p, q, i) {
-            return false;
+        let w = var_short(n, k, r, p, q, i);
+        if w != 0 {
+            return w;
         }
     }
-    true
+    0
 }
 
-fn other_fits(n: u8, k: Class, r: &[u8], v: u8, p: u32, q: u32, i: u8) -> bool
-    ensures { λ o. ⌜ o ≡ otherFits v (rowFrom n (now (r .entry)) (k .vars) p) (rowFrom n (now (r .entry)) (k .vars) q) i ⌝ }
+// The comparison at v gave w.
+fn other_short(n: u8, k: Class, r: &[u8], v: u8, w: u8, p: u32, q: u32, i: u8) -> u8
+    ensures { λ o. ⌜ o ≡ otherShort v w (rowFrom n (now (r .entry)) (k .vars) p) (rowFrom n (now (r .entry)) (k .vars) q) i ⌝ }
 {
     if i == v {
-        return true;
+        return w;
     }
-    var_fits(n, k, r, p, q, i)
+    var_short(n, k, r, p, q, i)
 }
 
-fn others_fit(n: u8, k: Class, r: &[u8], v: u8, p: u32, q: u32) -> bool
-    ensures { λ o. ⌜ o ≡ othersFit (k .vars) v (rowFrom n (now (r .entry)) (k .vars) p) (rowFrom n (now (r .entry)) (k .vars) q) ⌝ }
+fn others_pass(n: u8, k: Class, r: &[u8], v: u8, w: u8, p: u32, q: u32) -> u8
+    ensures { λ o. ⌜ o ≡ othersPass (k .vars) v w (rowFrom n (now (r .entry)) (k .vars) p) (rowFrom n (now (r .entry)) (k .vars) q) ⌝ }
 {
     let vars = k.vars;
     for i in 0..vars {
-        if !other_fits(n, k, r, v, p, q, i) {
-            return false;
+        let s = other_short(n, k, r, v, w, p, q, i);
+        if s != 0 {
+            return s;
         }
     }
-    true
+    0
 }
 
-fn depths_fit(n: u8, k: Class, r: &[u8], a: u8, b: u8, p: u32, q: u32) -> bool
-    ensures { λ o. ⌜ o ≡ depthsFit a b (rowFrom n (now (r .entry)) (k .vars) p) (rowFrom n (now (r .entry)) (k .vars) q) ⌝ }
-{
-    let d = rows::depth_at(r, p, k.vars, k.limit);
-    if d < a {
-        return false;
-    }
-    let e = rows::depth_at(r, q, k.vars, k.limit);
-    e as u16 + a as u16 == d as u16 + b as u16
-}
-
-fn rest_entry_fits(n: u8, k: Class, r: &[u8], a: u8, b: u8, p: u32, q: u32, j: u8) -> bool
+fn rest_short(n: u8, k: Class, r: &[u8], a: u8, b: u8, p: u32, q: u32, j: u8) -> u8
     requires { ⌜ (a + j ≤ 255) × (b + j ≤ 255) ⌝ }
-    ensures { λ o. ⌜ o ≡ restEntryFits a b (rowFrom n (now (r .entry)) (k .vars) p) (rowFrom n (now (r .entry)) (k .vars) q) j ⌝ }
+    ensures { λ o. ⌜ o ≡ restShort a b (rowFrom n (now (r .entry)) (k .vars) p) (rowFrom n (now (r .entry)) (k .vars) q) j ⌝ }
 {
-    word_fits(
+    word_short(
         n,
         rows::stack_word(r, p, k.vars, k.limit, a + j),
         rows::stack_word(r, q, k.vars, k.limit, b + j),
     )
 }
 
-fn stack_fits(n: u8, k: Class, r: &[u8], a: u8, b: u8, p: u32, q: u32) -> bool
-    ensures { λ o. ⌜ o ≡ stackFits a b (rowFrom n (now (r .entry)) (k .vars) p) (rowFrom n (now (r .entry)) (k .vars) q) ⌝ }
+fn rest_pass(n: u8, k: Class, r: &[u8], a: u8, b: u8, p: u32, q: u32) -> u8
+    requires { ⌜ b ≤ 1 ⌝ }
+    ensures { λ o. ⌜ o ≡ restPass a b (rowFrom n (now (r .entry)) (k .vars) p) (rowFrom n (now (r .entry)) (k .vars) q) ⌝ }
 {
-    if !depths_fit(n, k, r, a, b, p, q) {
-        return false;
-    }
-    let rest = rows::depth_at(r, p, k.vars, k.limit) - a;
+    let rest = depth_left(n, k, r, a, p) as u8;
     for j in 0..rest {
-        if !rest_entry_fits(n, k, r, a, b, p, q, j) {
-            return false;
+        let w = rest_short(n, k, r, a, b, p, q, j);
+        if w != 0 {
+            return w;
         }
     }
-    true
+    0
 }
 
-// a entries go from the top of row p, b come in their stead in row q, and the rest fits.
-pub fn rest_fits(n: u8, k: Class, r: &[u8], a: u8, b: u8, p: u32, q: u32) -> bool
-    ensures { λ o. ⌜ o ≡ restFits (k .vars) a b (rowFrom n (now (r .entry)) (k .vars) p) (rowFrom n (now (r .entry)) (k .vars) q) ⌝ }
+// The comparison at the new top gave t. Most often nothing is left below, and then nothing is called.
+fn pass(n: u8, k: Class, r: &[u8], a: u8, b: u8, t: u8, p: u32, q: u32) -> u8
+    requires { ⌜ b ≤ 1 ⌝ }
+    ensures { λ o. ⌜ o ≡ pass (k .vars) a b t (rowFrom n (now (r .entry)) (k .vars) p) (rowFrom n (now (r .entry)) (k .vars) q) ⌝ }
 {
-    if !stack_fits(n, k, r, a, b, p, q) {
-        return false;
+    let w = vars_pass(n, k, r, p, q);
+    if w != 0 {
+        return w;
     }
-    vars_fit(n, k, r, p, q)
+    if t != 0 {
+        return t;
+    }
+    if depth_left(n, k, r, a, p) == 0 {
+        return 0;
+    }
+    rest_pass(n, k, r, a, b, p, q)
 }
 
-// The same, but for the variable v that the rule names.
-pub fn rest_fits_but(n: u8, k: Class, r: &[u8], v: u8, a: u8, b: u8, p: u32, q: u32) -> bool
-    ensures { λ o. ⌜ o ≡ restFitsBut (k .vars) v a b (rowFrom n (now (r .entry)) (k .vars) p) (rowFrom n (now (r .entry)) (k .vars) q) ⌝ }
+fn pass_but(n: u8, k: Class, r: &[u8], v: u8, s: u8, a: u8, b: u8, t: u8, p: u32, q: u32) -> u8
+    requires { ⌜ b ≤ 1 ⌝ }
+    ensures { λ o. ⌜ o ≡ passBut (k .vars) v s a b t (rowFrom n (now (r .entry)) (k .vars) p) (rowFrom n (now (r .entry)) (k .vars) q) ⌝ }
 {
-    if !stack_fits(n, k, r, a, b, p, q) {
-        return false;
+    let w = others_pass(n, k, r, v, s, p, q);
+    if w != 0 {
+        return w;
     }
-    others_fit(n, k, r, v, p, q)
+    if t != 0 {
+        return t;
+    }
+    if depth_left(n, k, r, a, p) == 0 {
+        return 0;
+    }
+    rest_pass(n, k, r, a, b, p, q)
+}
+
+// What follows are the edges. Row p with a entries gone from the top goes to row q.
+pub fn popped_edge(n: u8, k: Class, r: &[u8], a: u8, p: u32, q: u32) -> u8
+    ensures { λ o. ⌜ o ≡ edgeShort (k .vars) (edge (popped a (rowFrom n (now (r .entry)) (k .vars) p)) (wants (rowFrom n (now (r .entry)) (k .vars) q))) ⌝ }
+{
+    pass(n, k, r, a, 0, 0, p, q)
+}
+
+// .. with Int on top.
+pub fn int_edge(n: u8, k: Class, r: &[u8], p: u32, q: u32) -> u8
+    ensures { λ o. ⌜ o ≡ edgeShort (k .vars) (edge (pushed Int (rowFrom n (now (r .entry)) (k .vars) p)) (wants (rowFrom n (now (r .entry)) (k .vars) q))) ⌝ }
+{
+    let t = entries::compare_int(n, rows::stack_word(r, q, k.vars, k.limit, 0));
+    pass(n, k, r, 0, 1, t, p, q)
+}
+
+// .. with Int in the top's stead.
+pub fn counted_edge(n: u8, k: Class, r: &[u8], p: u32, q: u32) -> u8
+    ensures { λ o. ⌜ o ≡ edgeShort (k .vars) (edge (pushed Int (popped 1 (rowFrom n (now (r .entry)) (k .vars) p))) (wants (rowFrom n (now (r .entry)) (k .vars) q))) ⌝ }
+{
+    let t = entries::compare_int(n, rows::stack_word(r, q, k.vars, k.limit, 0));
+    pass(n, k, r, 1, 1, t, p, q)
+}
+
+// .. with class c with (0,0) on top.
+pub fn made_edge(n: u8, k: Class, r: &[u8], c: u8, p: u32, q: u32) -> u8
+    ensures { λ o. ⌜ o ≡ edgeShort (k .vars) (edge (pushed (Ref c 0 noEnd) (rowFrom n (now (r .entry)) (k .vars) p)) (wants (rowFrom n (now (r .entry)) (k .vars) q))) ⌝ }
+{
+    let t = entries::compare_made(n, c, rows::stack_word(r, q, k.vars, k.limit, 0));
+    pass(n, k, r, 0, 1, t, p, q)
+}
+
+// .. with the top in variable v.
+pub fn stored_edge(n: u8, k: Class, r: &[u8], v: u8, p: u32, q: u32) -> u8
+    ensures { λ o. ⌜ o ≡ edgeShort (k .vars) (edge (popped 1 (stored v ((rowFrom n (now (r .entry)) (k .vars) p) .stack 0) (rowFrom n (now (r .entry)) (k .vars) p))) (wants (rowFrom n (now (r .entry)) (k .vars) q))) ⌝ }
+{
+    let w = word_short(
+        n,
+        rows::stack_word(r, p, k.vars, k.limit, 0),
+        rows::variable_word(r, q, k.vars, k.limit, v),
+    );
+    pass_but(n, k, r, v, w, 1, 0, 0, p, q)
+}
+
+// .. with variable v on top, too.
+pub fn loaded_edge(n: u8, k: Class, r: &[u8], v: u8, p: u32, q: u32) -> u8
+    ensures { λ o. ⌜ o ≡ edgeShort (k .vars) (edge (pushed ((rowFrom n (now (r .entry)) (k .vars) p) .variable v) (rowFrom n (now (r .entry)) (k .vars) p)) (wantsLoaded v (rowFrom n (now (r .entry)) (k .vars) p) (rowFrom n (now (r .entry)) (k .vars) q))) ⌝ }
+{
+    let x = rows::variable_word(r, p, k.vars, k.limit, v);
+    let top = rows::stack_word(r, q, k.vars, k.limit, 0);
+    if entries::is_reference(n, x) {
+        let w = entries::compare_both(n, x, rows::variable_word(r, q, k.vars, k.limit, v), top);
+        return pass_but(n, k, r, v, w, 0, 1, 0, p, q);
+    }
+    pass(n, k, r, 0, 1, word_short(n, x, top), p, q)
+}
+
+// .. with the lock of variable v taken.
+pub fn entered_edge(n: u8, k: Class, r: &[u8], v: u8, p: u32, q: u32) -> u8
+    ensures { λ o. ⌜ o ≡ edgeShort (k .vars) (edge (rowFrom n (now (r .entry)) (k .vars) p) (wantsAt v (wantEntered ((rowFrom n (now (r .entry)) (k .vars) q) .variable v)) (rowFrom n (now (r .entry)) (k .vars) q))) ⌝ }
+{
+    let w = entries::compare_entered(
+        n,
+        rows::variable_word(r, p, k.vars, k.limit, v),
+        rows::variable_word(r, q, k.vars, k.limit, v),
+    );
+    pass_but(n, k, r, v, w, 0, 0, 0, p, q)
+}
+
+// .. and given back.
+pub fn left_edge(n: u8, k: Class, r: &[u8], v: u8, p: u32, q: u32) -> u8
+    ensures { λ o. ⌜ o ≡ edgeShort (k .vars) (edge (rowFrom n (now (r .entry)) (k .vars) p) (wantsAt v (wantLeft ((rowFrom n (now (r .entry)) (k .vars) q) .variable v)) (rowFrom n (now (r .entry)) (k .vars) q))) ⌝ }
+{
+    let w = entries::compare_left(
+        n,
+        rows::variable_word(r, p, k.vars, k.limit, v),
+        rows::variable_word(r, q, k.vars, k.limit, v),
+    );
+    pass_but(n, k, r, v, w, 0, 0, 0, p, q)
+}
+
+// .. with its stack emptied.
+pub fn emptied_edge(n: u8, k: Class, r: &[u8], p: u32, q: u32) -> u8
+    ensures { λ o. ⌜ o ≡ edgeShort (k .vars) (edge (emptied (rowFrom n (now (r .entry)) (k .vars) p)) (wants (rowFrom n (now (r .entry)) (k .vars) q))) ⌝ }
+{
+    vars_pass(n, k, r, p, q)
 }
 
 fn var_goes(n: u8, k: Class, r: &[u8], p: u32, i: u8) -> bool
     ensures { λ o. ⌜ o ≡ varGoes (rowFrom n (now (r .entry)) (k .vars) p) i ⌝ }
 {
-    entries::may_go(rows::variable_at(n, k, r, p, i))
+    entries::may_go(n, rows::variable_word(r, p, k.vars, k.limit, i))
 }
 
 pub fn vars_go(n: u8, k: Class, r: &[u8], p: u32) -> bool
@@ -138,7 +252,7 @@ pub fn vars_go(n: u8, k: Class, r: &[u8], p: u32) -> bool
 fn entry_goes(n: u8, k: Class, r: &[u8], p: u32, j: u8) -> bool
     ensures { λ o. ⌜ o ≡ entryGoes (rowFrom n (now (r .entry)) (k .vars) p) j ⌝ }
 {
-    entries::may_go(rows::stack_at(n, k, r, p, j))
+    entries::may_go(n, rows::stack_word(r, p, k.vars, k.limit, j))
 }
 
 pub fn stack_goes(n: u8, k: Class, r: &[u8], p: u32) -> bool
@@ -151,23 +265,4 @@ pub fn stack_goes(n: u8, k: Class, r: &[u8], p: u32) -> bool
         }
     }
     true
-}
-
-fn handled_by(n: u8, k: Class, r: &[u8], p: u32, q: u32) -> bool
-    ensures { λ o. ⌜ o ≡ handledBy (k .vars) (rowFrom n (now (r .entry)) (k .vars) p) (rowFrom n (now (r .entry)) (k .vars) q) ⌝ }
-{
-    if rows::depth_at(r, q, k.vars, k.limit) != 0 {
-        return false;
-    }
-    vars_fit(n, k, r, p, q)
-}
-
-// The variables under a throw, with the handler h (0 is none) whose row begins at q.
-pub fn throws(n: u8, k: Class, r: &[u8], h: u16, p: u32, q: u32) -> bool
-    ensures { λ o. ⌜ o ≡ throws (k .vars) h (rowFrom n (now (r .entry)) (k .vars) p) (rowFrom n (now (r .entry)) (k .vars) q) ⌝ }
-{
-    if h == 0 {
-        return vars_go(n, k, r, p);
-    }
-    handled_by(n, k, r, p, q)
 }

@@ -1,9 +1,8 @@
 // A row as it stands in the bundle, read entry by entry from a record and numbers. Every read is total; a place is a u32, so that no sum wraps.
 ghost use mathlib.Core.Path.{_≡_};
 ghost use Prim.Native.Nat.{_+_};
-ghost use Rattle.rows.specs.Rows.{startBehind, rowStart, variableWord, stackWord, depthAt, variableAt, stackAt};
+ghost use Rattle.rows.specs.Rows.{startBehind, rowStart, variableWord, stackWord, depthAt};
 use bundle::Class;
-use entries::Entry;
 use instructions::Addr;
 
 // Where a row begins that i rows come before.
@@ -103,17 +102,4 @@ pub fn stack_word(r: &[u8], s: u32, vars: u8, limit: u8, j: u8) -> u32
     ensures { λ w. ⌜ w ≡ stackWord (now (r .entry)) s vars j ⌝ }
 {
     stack(new(r, s, vars, limit), j)
-}
-
-// The same two entries taken apart, in a bundle of n classes.
-pub fn variable_at(n: u8, k: Class, r: &[u8], s: u32, i: u8) -> Entry
-    ensures { λ x. ⌜ x ≡ variableAt n (now (r .entry)) s i ⌝ }
-{
-    entries::entry_from(n, variable_word(r, s, k.vars, k.limit, i))
-}
-
-pub fn stack_at(n: u8, k: Class, r: &[u8], s: u32, j: u8) -> Entry
-    ensures { λ x. ⌜ x ≡ stackAt n (now (r .entry)) s (k .vars) j ⌝ }
-{
-    entries::entry_from(n, stack_word(r, s, k.vars, k.limit, j))
 }

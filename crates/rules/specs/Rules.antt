@@ -1,55 +1,65 @@
--- Document 01, the rules at each address. x is row l, y is row l+1; V is `vars`.
-use mathlib.Core.Bool.{Bool, false, _&&_}
+-- Document 01, the rules at each address. x is row l, y is row l+1, z the target's or the handler's row; V is `vars`.
+use mathlib.Core.List.{List, [], _∷_}
+use mathlib.Core.Bool.{Bool, true, false, cond, _&&_}
 use Prim.Native.Nat.{ℕ, _+_}
+use lib.Dec.{leb, eqb}
 use Rattle.ground.specs.Bounded.{allBelow}
 use Rattle.instructions.specs.declared.Instruction.{Instruction}
 use Rattle.instructions.specs.declared.Instruction.the-variants.{Inc, Pop, Push0, Load, Store, If, Enter, Exit, New, Start, Throw, Return, Nothing}
 use Rattle.bundle.specs.Program.{Program}
-use Rattle.entries.specs.declared.Entry.the-variants.{Ref}
-use Rattle.entries.specs.Entries.{noEnd, isInt, isOf, matches}
-use Rattle.entries.specs.Fits.{intFits, entryFits, mayGo, loadSplits, enterMoves, exitMoves}
+use Rattle.entries.specs.Entries.{Int, Ref}
+use Rattle.entries.specs.Entries.{noEnd, isInt, isReference, isOf, matches}
+use Rattle.entries.specs.Fits.{mayGo, wantEntered, wantLeft}
 use Rattle.rows.specs.Rows.{Row}
-use Rattle.matching.specs.Matching.{restFits, restFitsBut, varsGo, stackGoes, throws}
+use Rattle.matching.specs.Matching.{popped, pushed, stored, emptied, wants, wantsAt, wantsLoaded, Edge, edge, varsGo, stackGoes}
+use Rattle.rules.specs.Rule.{Rule, rule}
 
 -- inc: top is Int; next top is Int or Top; rest fits
-unfoldable pub incRule : ℕ → Row → Row → Bool
-incRule vars x y = isInt (x .stack 0) && intFits (y .stack 0) && restFits vars 1 1 x y
+unfoldable pub incRule : Row → Row → Rule
+incRule x y = rule (leb 1 (x .depth) && isInt (x .stack 0)) (edge (pushed Int (popped 1 x)) (wants y) ∷ [])
 
 -- pop: top may go; rest fits
-unfoldable pub popRule : ℕ → Row → Row → Bool
-popRule vars x y = mayGo (x .stack 0) && restFits vars 1 0 x y
+unfoldable pub popRule : Row → Row → Rule
+popRule x y = rule (leb 1 (x .depth) && mayGo (x .stack 0)) (edge (popped 1 x) (wants y) ∷ [])
 
 -- push0: Int fits the new top; rest fits
-unfoldable pub push0Rule : ℕ → Row → Row → Bool
-push0Rule vars x y = intFits (y .stack 0) && restFits vars 0 1 x y
+unfoldable pub push0Rule : Row → Row → Rule
+push0Rule x y = rule true (edge (pushed Int x) (wants y) ∷ [])
 
--- load v: it splits over the next variable and the new top; rest fits
-unfoldable pub loadRule : ℕ → ℕ → Row → Row → Bool
-loadRule vars v x y = loadSplits (x .variable v) (y .variable v) (y .stack 0) && restFitsBut vars v 0 1 x y
+-- load v: a non-reference fits both the next variable and the new top, a reference is split over them; rest fits
+unfoldable pub loadRule : ℕ → Row → Row → Rule
+loadRule v x y = rule true (edge (pushed (x .variable v) x) (wantsLoaded v x y) ∷ [])
 
 -- store v: the old variable may go; top fits the new one; rest fits
-unfoldable pub storeRule : ℕ → ℕ → Row → Row → Bool
-storeRule vars v x y = mayGo (x .variable v) && entryFits (x .stack 0) (y .variable v) && restFitsBut vars v 1 0 x y
+unfoldable pub storeRule : ℕ → Row → Row → Rule
+storeRule v x y = rule (leb 1 (x .depth) && mayGo (x .variable v)) (edge (popped 1 (stored v (x .stack 0) x)) (wants y) ∷ [])
 
--- if: top is Int; the rest fits row l+1 and the target's row z
-unfoldable pub ifRule : ℕ → Row → Row → Row → Bool
-ifRule vars x y z = isInt (x .stack 0) && restFits vars 1 0 x y && restFits vars 1 0 x z
+-- if: top is Int; the rest fits row l+1 and the target's row
+unfoldable pub ifRule : Row → Row → Row → Rule
+ifRule x y z = rule (leb 1 (x .depth) && isInt (x .stack 0)) (edge (popped 1 x) (wants y) ∷ edge (popped 1 x) (wants z) ∷ [])
 
--- monitorenter v: the pair moves; rest fits
-unfoldable pub enterRule : ℕ → ℕ → Row → Row → Bool
-enterRule vars v x y = enterMoves (x .variable v) (y .variable v) && restFitsBut vars v 0 0 x y
+-- monitorenter v: a reference (d,e); next is its class or Top, weight (d',e'); d ≥ d'-1 and e ≥ e'+1. Rest fits
+unfoldable pub enterRule : ℕ → Row → Row → Rule
+enterRule v x y = rule (isReference (x .variable v)) (edge x (wantsAt v (wantEntered (y .variable v)) y) ∷ [])
 
--- monitorexit v: likewise
-unfoldable pub exitRule : ℕ → ℕ → Row → Row → Bool
-exitRule vars v x y = exitMoves (x .variable v) (y .variable v) && restFitsBut vars v 0 0 x y
+-- monitorexit v: likewise, d ≥ d'+1 and e ≥ e'-1
+unfoldable pub exitRule : ℕ → Row → Row → Rule
+exitRule v x y = rule (isReference (x .variable v)) (edge x (wantsAt v (wantLeft (y .variable v)) y) ∷ [])
 
--- athrow: every stack entry may go; the variables as for a failed new, with the handler h (0 is none), whose row is z, or without
-unfoldable pub throwRule : ℕ → ℕ → Row → Row → Bool
-throwRule vars h x z = stackGoes x && throws vars h x z
+-- athrow and a failed new, with the handler h (0 is none): every stack entry may go; with none, each variable may go
+unfoldable pub throwAsks : ℕ → ℕ → Row → Bool
+throwAsks vars h x = stackGoes x && cond (eqb h 0) (varsGo vars x) true
 
--- new c: in row l+1 the class with (0,0) fits the new top; rest fits; every stack entry may go; and the variables under a throw
-unfoldable pub newRule : ℕ → ℕ → ℕ → Row → Row → Row → Bool
-newRule vars c h x y z = entryFits (Ref c 0 noEnd) (y .stack 0) && restFits vars 0 1 x y && throwRule vars h x z
+-- .. with a handler, each variable fits the handler's row, whose depth is 0
+unfoldable pub thrown : ℕ → Row → Row → List Edge
+thrown h x z = cond (eqb h 0) [] (edge (emptied x) (wants z) ∷ [])
+
+-- new c: in row l+1 the class with (0,0) fits the new top; rest fits; and what a failed new asks
+unfoldable pub newRule : ℕ → ℕ → ℕ → Row → Row → Row → Rule
+newRule vars c h x y z = rule (throwAsks vars h x) (edge (pushed (Ref c 0 noEnd) x) (wants y) ∷ thrown h x z)
+
+unfoldable pub throwRule : ℕ → ℕ → Row → Row → Rule
+throwRule vars h x z = rule (throwAsks vars h x) (thrown h x z)
 
 -- an argument that start takes: it matches its descriptor, and may go
 unfoldable pub argumentGoes : (ℕ → ℕ) → Row → ℕ → Bool
@@ -63,25 +73,26 @@ unfoldable pub argumentsGo : ℕ → (ℕ → ℕ) → Row → Bool
 argumentsGo args descriptor x = allBelow args (argumentGoes descriptor x)
 
 -- start c: from the top, n entries matching c's descriptors, then a reference of class c; all may go; rest fits
-unfoldable pub startRule : ℕ → ℕ → (ℕ → ℕ) → ℕ → Row → Row → Bool
-startRule vars args descriptor c x y = argumentsGo args descriptor x && objectGoes c x args && restFits vars (args + 1) 0 x y
+unfoldable pub startRule : ℕ → (ℕ → ℕ) → ℕ → Row → Row → Rule
+startRule args descriptor c x y =
+    rule (leb (args + 1) (x .depth) && argumentsGo args descriptor x && objectGoes c x args) (edge (popped (args + 1) x) (wants y) ∷ [])
 
 -- return: every entry, variables and stack, may go
-unfoldable pub returnRule : ℕ → Row → Bool
-returnRule vars x = stackGoes x && varsGo vars x
+unfoldable pub returnRule : ℕ → Row → Rule
+returnRule vars x = rule (stackGoes x && varsGo vars x) []
 
 -- the rule of the instruction at address l
-abbrev pub ruleOf : Program → ℕ → (ℕ → Row) → ℕ → Instruction → Bool
-ruleOf P vars row l Inc = incRule vars (row l) (row (l + 1))
-ruleOf P vars row l Pop = popRule vars (row l) (row (l + 1))
-ruleOf P vars row l Push0 = push0Rule vars (row l) (row (l + 1))
-ruleOf P vars row l (Load v) = loadRule vars (v .0) (row l) (row (l + 1))
-ruleOf P vars row l (Store v) = storeRule vars (v .0) (row l) (row (l + 1))
-ruleOf P vars row l (If a) = ifRule vars (row l) (row (l + 1)) (row (a .0))
-ruleOf P vars row l (Enter v) = enterRule vars (v .0) (row l) (row (l + 1))
-ruleOf P vars row l (Exit v) = exitRule vars (v .0) (row l) (row (l + 1))
+abbrev pub ruleOf : Program → ℕ → (ℕ → Row) → ℕ → Instruction → Rule
+ruleOf P vars row l Inc = incRule (row l) (row (l + 1))
+ruleOf P vars row l Pop = popRule (row l) (row (l + 1))
+ruleOf P vars row l Push0 = push0Rule (row l) (row (l + 1))
+ruleOf P vars row l (Load v) = loadRule (v .0) (row l) (row (l + 1))
+ruleOf P vars row l (Store v) = storeRule (v .0) (row l) (row (l + 1))
+ruleOf P vars row l (If a) = ifRule (row l) (row (l + 1)) (row (a .0))
+ruleOf P vars row l (Enter v) = enterRule (v .0) (row l) (row (l + 1))
+ruleOf P vars row l (Exit v) = exitRule (v .0) (row l) (row (l + 1))
 ruleOf P vars row l (New c h) = newRule vars c (h .0) (row l) (row (l + 1)) (row (h .0))
-ruleOf P vars row l (Start c) = startRule vars (P .method c .args) (P .method c .descriptor) c (row l) (row (l + 1))
+ruleOf P vars row l (Start c) = startRule (P .method c .args) (P .method c .descriptor) c (row l) (row (l + 1))
 ruleOf P vars row l (Throw h) = throwRule vars (h .0) (row l) (row (h .0))
 ruleOf P vars row l Return = returnRule vars (row l)
-ruleOf P vars row l Nothing = false
+ruleOf P vars row l Nothing = rule false []

@@ -1,148 +1,280 @@
-// The rules of document 01 at each address, over one record: rows p (address l), q (l+1) and h (a target or handler) are given by where they begin.
+// The rules of document 01, instruction by instruction: what each asks, and its edges. Rows p (of address l), q (of l+1) and h (the target's or handler's) are given by where they begin.
 ghost use mathlib.Core.Path.{_≡_};
+ghost use mathlib.Core.Bool.{_&&_, true};
 ghost use Prim.Native.Nat.{_+_};
+ghost use lib.Dec.{eqb};
 ghost use Rattle.ground.specs.Bytes.{at};
+ghost use Rattle.ground.specs.Chain.{refuse};
 ghost use Rattle.bundle.specs.Program.{programOf};
 ghost use Rattle.instructions.specs.Table.{decoded};
 ghost use Rattle.rows.specs.Rows.{rowFrom, rowAt};
-ghost use Rattle.rules.specs.Rules.{incRule, popRule, push0Rule, loadRule, storeRule, ifRule, enterRule, exitRule, throwRule, newRule, argumentGoes, objectGoes, argumentsGo, startRule, returnRule, ruleOf};
+ghost use Rattle.matching.specs.Matching.{thenShort};
+ghost use Rattle.rules.specs.Rule.{asked, allMeet, shortAlong, unasked, ruling};
+ghost use Rattle.rules.specs.Rules.{incRule, popRule, push0Rule, loadRule, storeRule, ifRule, enterRule, exitRule, throwAsks, thrown, throwRule, newRule, argumentGoes, objectGoes, argumentsGo, startRule, returnRule, ruleOf};
 use bundle::Class;
-use entries::Entry;
 use instructions::Addr;
 use instructions::Code;
 
-fn inc_rule(n: u8, k: Class, r: &[u8], p: u32, q: u32) -> bool
-    ensures { λ o. ⌜ o ≡ incRule (k .vars) (rowFrom n (now (r .entry)) (k .vars) p) (rowFrom n (now (r .entry)) (k .vars) q) ⌝ }
-{
-    if !entries::is_int(rows::stack_at(n, k, r, p, 0)) {
-        return false;
-    }
-    if !entries::int_fits(rows::stack_at(n, k, r, q, 0)) {
-        return false;
-    }
-    matching::rest_fits(n, k, r, 1, 1, p, q)
+// Whether what a rule asks is there, and then the first comparison that isn't 0.
+pub struct Ruling {
+    pub asked: bool,
+    pub short: u8,
 }
 
-fn pop_rule(n: u8, k: Class, r: &[u8], p: u32, q: u32) -> bool
-    ensures { λ o. ⌜ o ≡ popRule (k .vars) (rowFrom n (now (r .entry)) (k .vars) p) (rowFrom n (now (r .entry)) (k .vars) q) ⌝ }
+fn judged(asked: bool, short: u8) -> Ruling
+    ensures { λ o. ⌜ o ≡ refuse asked unasked (record { asked = true; short = short }) ⌝ }
 {
-    if !entries::may_go(rows::stack_at(n, k, r, p, 0)) {
-        return false;
+    if !asked {
+        return Ruling {
+            asked: false,
+            short: 0,
+        };
     }
-    matching::rest_fits(n, k, r, 1, 0, p, q)
+    Ruling { asked: true, short }
 }
 
-fn push0_rule(n: u8, k: Class, r: &[u8], p: u32, q: u32) -> bool
-    ensures { λ o. ⌜ o ≡ push0Rule (k .vars) (rowFrom n (now (r .entry)) (k .vars) p) (rowFrom n (now (r .entry)) (k .vars) q) ⌝ }
+fn then_short(first: u8, second: u8) -> u8
+    ensures { λ o. ⌜ o ≡ thenShort first second ⌝ }
 {
-    if !entries::int_fits(rows::stack_at(n, k, r, q, 0)) {
-        return false;
+    if first != 0 {
+        return first;
     }
-    matching::rest_fits(n, k, r, 0, 1, p, q)
+    second
 }
 
-fn load_rule(n: u8, k: Class, r: &[u8], v: u8, p: u32, q: u32) -> bool
-    ensures { λ o. ⌜ o ≡ loadRule (k .vars) v (rowFrom n (now (r .entry)) (k .vars) p) (rowFrom n (now (r .entry)) (k .vars) q) ⌝ }
+fn inc_asks(n: u8, k: Class, r: &[u8], p: u32, q: u32) -> bool
+    ensures { λ o. ⌜ o ≡ asked (incRule (rowFrom n (now (r .entry)) (k .vars) p) (rowFrom n (now (r .entry)) (k .vars) q)) ⌝ }
 {
-    if !entries::load_splits(
-        rows::variable_at(n, k, r, p, v),
-        rows::variable_at(n, k, r, q, v),
-        rows::stack_at(n, k, r, q, 0),
-    ) {
-        return false;
-    }
-    matching::rest_fits_but(n, k, r, v, 0, 1, p, q)
+    let d = matching::depth_of(n, k, r, p);
+    (1 <= d)
+        & entries::is_int(n, rows::stack_word(r, p, k.vars, k.limit, 0))
+        & (d == matching::depth_of(n, k, r, q))
 }
 
-fn store_rule(n: u8, k: Class, r: &[u8], v: u8, p: u32, q: u32) -> bool
-    ensures { λ o. ⌜ o ≡ storeRule (k .vars) v (rowFrom n (now (r .entry)) (k .vars) p) (rowFrom n (now (r .entry)) (k .vars) q) ⌝ }
+fn inc_rule(n: u8, k: Class, r: &[u8], p: u32, q: u32) -> Ruling
+    ensures { λ o. ⌜ o ≡ ruling (k .vars) (incRule (rowFrom n (now (r .entry)) (k .vars) p) (rowFrom n (now (r .entry)) (k .vars) q)) ⌝ }
 {
-    if !entries::may_go(rows::variable_at(n, k, r, p, v)) {
-        return false;
+    if !inc_asks(n, k, r, p, q) {
+        return Ruling {
+            asked: false,
+            short: 0,
+        };
     }
-    if !entries::fits(
-        n,
-        rows::stack_word(r, p, k.vars, k.limit, 0),
-        rows::variable_word(r, q, k.vars, k.limit, v),
-    ) {
-        return false;
+    Ruling {
+        asked: true,
+        short: matching::counted_edge(n, k, r, p, q),
     }
-    matching::rest_fits_but(n, k, r, v, 1, 0, p, q)
 }
 
-fn if_rule(n: u8, k: Class, r: &[u8], p: u32, q: u32, h: u32) -> bool
-    ensures { λ o. ⌜ o ≡ ifRule (k .vars) (rowFrom n (now (r .entry)) (k .vars) p) (rowFrom n (now (r .entry)) (k .vars) q) (rowFrom n (now (r .entry)) (k .vars) h) ⌝ }
+fn pop_asks(n: u8, k: Class, r: &[u8], p: u32, q: u32) -> bool
+    ensures { λ o. ⌜ o ≡ asked (popRule (rowFrom n (now (r .entry)) (k .vars) p) (rowFrom n (now (r .entry)) (k .vars) q)) ⌝ }
 {
-    if !entries::is_int(rows::stack_at(n, k, r, p, 0)) {
-        return false;
-    }
-    if !matching::rest_fits(n, k, r, 1, 0, p, q) {
-        return false;
-    }
-    matching::rest_fits(n, k, r, 1, 0, p, h)
+    entries::may_go(n, rows::stack_word(r, p, k.vars, k.limit, 0))
+        & (matching::depth_of(n, k, r, p) == matching::depth_of(n, k, r, q) + 1)
 }
 
-fn enter_rule(n: u8, k: Class, r: &[u8], v: u8, p: u32, q: u32) -> bool
-    ensures { λ o. ⌜ o ≡ enterRule (k .vars) v (rowFrom n (now (r .entry)) (k .vars) p) (rowFrom n (now (r .entry)) (k .vars) q) ⌝ }
+fn pop_rule(n: u8, k: Class, r: &[u8], p: u32, q: u32) -> Ruling
+    ensures { λ o. ⌜ o ≡ ruling (k .vars) (popRule (rowFrom n (now (r .entry)) (k .vars) p) (rowFrom n (now (r .entry)) (k .vars) q)) ⌝ }
 {
-    if !entries::enter_moves(
-        rows::variable_at(n, k, r, p, v),
-        rows::variable_at(n, k, r, q, v),
-    ) {
-        return false;
+    if !pop_asks(n, k, r, p, q) {
+        return Ruling {
+            asked: false,
+            short: 0,
+        };
     }
-    matching::rest_fits_but(n, k, r, v, 0, 0, p, q)
+    Ruling {
+        asked: true,
+        short: matching::popped_edge(n, k, r, 1, p, q),
+    }
 }
 
-fn exit_rule(n: u8, k: Class, r: &[u8], v: u8, p: u32, q: u32) -> bool
-    ensures { λ o. ⌜ o ≡ exitRule (k .vars) v (rowFrom n (now (r .entry)) (k .vars) p) (rowFrom n (now (r .entry)) (k .vars) q) ⌝ }
+fn push0_asks(n: u8, k: Class, r: &[u8], p: u32, q: u32) -> bool
+    ensures { λ o. ⌜ o ≡ asked (push0Rule (rowFrom n (now (r .entry)) (k .vars) p) (rowFrom n (now (r .entry)) (k .vars) q)) ⌝ }
 {
-    if !entries::exit_moves(
-        rows::variable_at(n, k, r, p, v),
-        rows::variable_at(n, k, r, q, v),
-    ) {
-        return false;
-    }
-    matching::rest_fits_but(n, k, r, v, 0, 0, p, q)
+    matching::depth_of(n, k, r, p) + 1 == matching::depth_of(n, k, r, q)
 }
 
-fn throw_rule(n: u8, k: Class, r: &[u8], handler: u16, p: u32, h: u32) -> bool
-    ensures { λ o. ⌜ o ≡ throwRule (k .vars) handler (rowFrom n (now (r .entry)) (k .vars) p) (rowFrom n (now (r .entry)) (k .vars) h) ⌝ }
+fn push0_rule(n: u8, k: Class, r: &[u8], p: u32, q: u32) -> Ruling
+    ensures { λ o. ⌜ o ≡ ruling (k .vars) (push0Rule (rowFrom n (now (r .entry)) (k .vars) p) (rowFrom n (now (r .entry)) (k .vars) q)) ⌝ }
+{
+    if !push0_asks(n, k, r, p, q) {
+        return Ruling {
+            asked: false,
+            short: 0,
+        };
+    }
+    Ruling {
+        asked: true,
+        short: matching::int_edge(n, k, r, p, q),
+    }
+}
+
+fn load_asks(n: u8, k: Class, r: &[u8], v: u8, p: u32, q: u32) -> bool
+    ensures { λ o. ⌜ o ≡ asked (loadRule v (rowFrom n (now (r .entry)) (k .vars) p) (rowFrom n (now (r .entry)) (k .vars) q)) ⌝ }
+{
+    matching::depth_of(n, k, r, p) + 1 == matching::depth_of(n, k, r, q)
+}
+
+fn load_rule(n: u8, k: Class, r: &[u8], v: u8, p: u32, q: u32) -> Ruling
+    ensures { λ o. ⌜ o ≡ ruling (k .vars) (loadRule v (rowFrom n (now (r .entry)) (k .vars) p) (rowFrom n (now (r .entry)) (k .vars) q)) ⌝ }
+{
+    if !load_asks(n, k, r, v, p, q) {
+        return Ruling {
+            asked: false,
+            short: 0,
+        };
+    }
+    Ruling {
+        asked: true,
+        short: matching::loaded_edge(n, k, r, v, p, q),
+    }
+}
+
+fn store_asks(n: u8, k: Class, r: &[u8], v: u8, p: u32, q: u32) -> bool
+    ensures { λ o. ⌜ o ≡ asked (storeRule v (rowFrom n (now (r .entry)) (k .vars) p) (rowFrom n (now (r .entry)) (k .vars) q)) ⌝ }
+{
+    entries::may_go(n, rows::variable_word(r, p, k.vars, k.limit, v))
+        & (matching::depth_of(n, k, r, p) == matching::depth_of(n, k, r, q) + 1)
+}
+
+fn store_rule(n: u8, k: Class, r: &[u8], v: u8, p: u32, q: u32) -> Ruling
+    ensures { λ o. ⌜ o ≡ ruling (k .vars) (storeRule v (rowFrom n (now (r .entry)) (k .vars) p) (rowFrom n (now (r .entry)) (k .vars) q)) ⌝ }
+{
+    if !store_asks(n, k, r, v, p, q) {
+        return Ruling {
+            asked: false,
+            short: 0,
+        };
+    }
+    Ruling {
+        asked: true,
+        short: matching::stored_edge(n, k, r, v, p, q),
+    }
+}
+
+fn if_asks(n: u8, k: Class, r: &[u8], p: u32, q: u32, h: u32) -> bool
+    ensures { λ o. ⌜ o ≡ asked (ifRule (rowFrom n (now (r .entry)) (k .vars) p) (rowFrom n (now (r .entry)) (k .vars) q) (rowFrom n (now (r .entry)) (k .vars) h)) ⌝ }
+{
+    let d = matching::depth_of(n, k, r, p);
+    entries::is_int(n, rows::stack_word(r, p, k.vars, k.limit, 0))
+        & ((d == matching::depth_of(n, k, r, q) + 1) & (d == matching::depth_of(n, k, r, h) + 1))
+}
+
+fn if_rule(n: u8, k: Class, r: &[u8], p: u32, q: u32, h: u32) -> Ruling
+    ensures { λ o. ⌜ o ≡ ruling (k .vars) (ifRule (rowFrom n (now (r .entry)) (k .vars) p) (rowFrom n (now (r .entry)) (k .vars) q) (rowFrom n (now (r .entry)) (k .vars) h)) ⌝ }
+{
+    if !if_asks(n, k, r, p, q, h) {
+        return Ruling {
+            asked: false,
+            short: 0,
+        };
+    }
+    Ruling {
+        asked: true,
+        short: then_short(
+            matching::popped_edge(n, k, r, 1, p, q),
+            matching::popped_edge(n, k, r, 1, p, h),
+        ),
+    }
+}
+
+fn enter_asks(n: u8, k: Class, r: &[u8], v: u8, p: u32, q: u32) -> bool
+    ensures { λ o. ⌜ o ≡ asked (enterRule v (rowFrom n (now (r .entry)) (k .vars) p) (rowFrom n (now (r .entry)) (k .vars) q)) ⌝ }
+{
+    entries::is_reference(n, rows::variable_word(r, p, k.vars, k.limit, v))
+        & (matching::depth_of(n, k, r, p) == matching::depth_of(n, k, r, q))
+}
+
+fn enter_rule(n: u8, k: Class, r: &[u8], v: u8, p: u32, q: u32) -> Ruling
+    ensures { λ o. ⌜ o ≡ ruling (k .vars) (enterRule v (rowFrom n (now (r .entry)) (k .vars) p) (rowFrom n (now (r .entry)) (k .vars) q)) ⌝ }
+{
+    if !enter_asks(n, k, r, v, p, q) {
+        return Ruling {
+            asked: false,
+            short: 0,
+        };
+    }
+    Ruling {
+        asked: true,
+        short: matching::entered_edge(n, k, r, v, p, q),
+    }
+}
+
+fn exit_asks(n: u8, k: Class, r: &[u8], v: u8, p: u32, q: u32) -> bool
+    ensures { λ o. ⌜ o ≡ asked (exitRule v (rowFrom n (now (r .entry)) (k .vars) p) (rowFrom n (now (r .entry)) (k .vars) q)) ⌝ }
+{
+    entries::is_reference(n, rows::variable_word(r, p, k.vars, k.limit, v))
+        & (matching::depth_of(n, k, r, p) == matching::depth_of(n, k, r, q))
+}
+
+fn exit_rule(n: u8, k: Class, r: &[u8], v: u8, p: u32, q: u32) -> Ruling
+    ensures { λ o. ⌜ o ≡ ruling (k .vars) (exitRule v (rowFrom n (now (r .entry)) (k .vars) p) (rowFrom n (now (r .entry)) (k .vars) q)) ⌝ }
+{
+    if !exit_asks(n, k, r, v, p, q) {
+        return Ruling {
+            asked: false,
+            short: 0,
+        };
+    }
+    Ruling {
+        asked: true,
+        short: matching::left_edge(n, k, r, v, p, q),
+    }
+}
+
+// What athrow and a failed new ask, the handler's depth among it.
+fn throw_asks(n: u8, k: Class, r: &[u8], handler: u16, p: u32, h: u32) -> bool
+    ensures { λ o. ⌜ o ≡ (throwAsks (k .vars) handler (rowFrom n (now (r .entry)) (k .vars) p) && allMeet (thrown handler (rowFrom n (now (r .entry)) (k .vars) p) (rowFrom n (now (r .entry)) (k .vars) h))) ⌝ }
 {
     if !matching::stack_goes(n, k, r, p) {
         return false;
     }
-    matching::throws(n, k, r, handler, p, h)
+    if handler == 0 {
+        return matching::vars_go(n, k, r, p);
+    }
+    0 == matching::depth_of(n, k, r, h)
 }
 
-fn new_rule(n: u8, k: Class, r: &[u8], c: u8, handler: u16, p: u32, q: u32, h: u32) -> bool
-    ensures { λ o. ⌜ o ≡ newRule (k .vars) c handler (rowFrom n (now (r .entry)) (k .vars) p) (rowFrom n (now (r .entry)) (k .vars) q) (rowFrom n (now (r .entry)) (k .vars) h) ⌝ }
+fn thrown_short(n: u8, k: Class, r: &[u8], handler: u16, p: u32, h: u32) -> u8
+    ensures { λ o. ⌜ o ≡ shortAlong (k .vars) (thrown handler (rowFrom n (now (r .entry)) (k .vars) p) (rowFrom n (now (r .entry)) (k .vars) h)) ⌝ }
 {
-    if !entries::entry_fits(
-        Entry::Ref {
-            class: c,
-            dip: 0,
-            end: 64,
-        },
-        rows::stack_at(n, k, r, q, 0),
-    ) {
-        return false;
+    if handler == 0 {
+        return 0;
     }
-    if !matching::rest_fits(n, k, r, 0, 1, p, q) {
-        return false;
-    }
-    throw_rule(n, k, r, handler, p, h)
+    matching::emptied_edge(n, k, r, p, h)
+}
+
+fn throw_rule(n: u8, k: Class, r: &[u8], handler: u16, p: u32, h: u32) -> Ruling
+    ensures { λ o. ⌜ o ≡ ruling (k .vars) (throwRule (k .vars) handler (rowFrom n (now (r .entry)) (k .vars) p) (rowFrom n (now (r .entry)) (k .vars) h)) ⌝ }
+{
+    judged(
+        throw_asks(n, k, r, handler, p, h),
+        thrown_short(n, k, r, handler, p, h),
+    )
+}
+
+fn new_rule(n: u8, k: Class, r: &[u8], c: u8, handler: u16, p: u32, q: u32, h: u32) -> Ruling
+    ensures { λ o. ⌜ o ≡ ruling (k .vars) (newRule (k .vars) c handler (rowFrom n (now (r .entry)) (k .vars) p) (rowFrom n (now (r .entry)) (k .vars) q) (rowFrom n (now (r .entry)) (k .vars) h)) ⌝ }
+{
+    judged(
+        throw_asks(n, k, r, handler, p, h)
+            & (matching::depth_of(n, k, r, p) + 1 == matching::depth_of(n, k, r, q)),
+        then_short(
+            matching::made_edge(n, k, r, c, p, q),
+            thrown_short(n, k, r, handler, p, h),
+        ),
+    )
 }
 
 // s is the record of the class that is started: its descriptors come first.
 fn argument_goes(n: u8, k: Class, r: &[u8], s: &[u8], p: u32, j: u8) -> bool
     ensures { λ o. ⌜ o ≡ argumentGoes (at (now (s .entry))) (rowFrom n (now (r .entry)) (k .vars) p) j ⌝ }
 {
-    let x = rows::stack_at(n, k, r, p, j);
-    if !entries::matches(ground::byte(s, j as usize), x) {
+    let w = rows::stack_word(r, p, k.vars, k.limit, j);
+    if !entries::matches(n, ground::byte(s, j as usize), w) {
         return false;
     }
-    entries::may_go(x)
+    entries::may_go(n, w)
 }
 
 fn arguments_go(n: u8, k: Class, r: &[u8], s: &[u8], args: u8, p: u32) -> bool
@@ -159,69 +291,89 @@ fn arguments_go(n: u8, k: Class, r: &[u8], s: &[u8], args: u8, p: u32) -> bool
 fn object_goes(n: u8, k: Class, r: &[u8], c: u8, p: u32, j: u8) -> bool
     ensures { λ o. ⌜ o ≡ objectGoes c (rowFrom n (now (r .entry)) (k .vars) p) j ⌝ }
 {
-    let x = rows::stack_at(n, k, r, p, j);
-    if !entries::is_of(c, x) {
+    let w = rows::stack_word(r, p, k.vars, k.limit, j);
+    if !entries::is_of(n, c, w) {
         return false;
     }
-    entries::may_go(x)
+    entries::may_go(n, w)
 }
 
 // A depth is a byte, so no stack holds 256 entries.
-fn start_rule(n: u8, k: Class, r: &[u8], s: &[u8], args: u8, c: u8, p: u32, q: u32) -> bool
-    ensures { λ o. ⌜ o ≡ startRule (k .vars) args (at (now (s .entry))) c (rowFrom n (now (r .entry)) (k .vars) p) (rowFrom n (now (r .entry)) (k .vars) q) ⌝ }
+fn start_rule(n: u8, k: Class, r: &[u8], s: &[u8], args: u8, c: u8, p: u32, q: u32) -> Ruling
+    ensures { λ o. ⌜ o ≡ ruling (k .vars) (startRule args (at (now (s .entry))) c (rowFrom n (now (r .entry)) (k .vars) p) (rowFrom n (now (r .entry)) (k .vars) q)) ⌝ }
 {
     if args == 255 {
-        return false;
+        return Ruling {
+            asked: false,
+            short: 0,
+        };
     }
-    if !arguments_go(n, k, r, s, args, p) {
-        return false;
-    }
-    if !object_goes(n, k, r, c, p, args) {
-        return false;
-    }
-    matching::rest_fits(n, k, r, args + 1, 0, p, q)
+    judged(
+        (args as u16 + 1 <= matching::depth_of(n, k, r, p))
+            & arguments_go(n, k, r, s, args, p)
+            & object_goes(n, k, r, c, p, args)
+            & (matching::depth_left(n, k, r, args + 1, p) == matching::depth_of(n, k, r, q)),
+        matching::popped_edge(n, k, r, args + 1, p, q),
+    )
 }
 
-fn return_rule(n: u8, k: Class, r: &[u8], p: u32) -> bool
-    ensures { λ o. ⌜ o ≡ returnRule (k .vars) (rowFrom n (now (r .entry)) (k .vars) p) ⌝ }
+fn return_rule(n: u8, k: Class, r: &[u8], p: u32) -> Ruling
+    ensures { λ o. ⌜ o ≡ ruling (k .vars) (returnRule (k .vars) (rowFrom n (now (r .entry)) (k .vars) p)) ⌝ }
 {
-    if !matching::stack_goes(n, k, r, p) {
-        return false;
-    }
-    matching::vars_go(n, k, r, p)
+    judged(
+        matching::stack_goes(n, k, r, p) & matching::vars_go(n, k, r, p),
+        0,
+    )
 }
 
-fn start_of(b: &[u8], n: u8, k: Class, r: &[u8], c: u8, p: u32, q: u32) -> bool
-    ensures { λ o. ⌜ o ≡ startRule (k .vars) (programOf (now (b .entry)) .method c .args) (programOf (now (b .entry)) .method c .descriptor) c (rowFrom n (now (r .entry)) (k .vars) p) (rowFrom n (now (r .entry)) (k .vars) q) ⌝ }
+fn start_of(b: &[u8], n: u8, k: Class, r: &[u8], c: u8, p: u32, q: u32) -> Ruling
+    ensures { λ o. ⌜ o ≡ ruling (k .vars) (startRule (programOf (now (b .entry)) .method c .args) (programOf (now (b .entry)) .method c .descriptor) c (rowFrom n (now (r .entry)) (k .vars) p) (rowFrom n (now (r .entry)) (k .vars) q)) ⌝ }
 {
     let started = bundle::class_at(b, c);
     start_rule(n, k, r, bundle::part_of(b, started), started.args, c, p, q)
 }
 
-// The rule of the instruction x at address l of the method whose record is r. The bundle is asked only for the class that a start names.
-// The opcode is looked at once; where the table says 0, anything else is no instruction, and breaks the rule.
-pub fn rule_of(b: &[u8], n: u8, k: Class, r: &[u8], l: Addr, x: Code) -> bool
-    ensures { λ o. ⌜ o ≡ ruleOf (programOf (now (b .entry))) (k .vars) (rowAt n k (now (r .entry))) (l .0) (decoded x) ⌝ }
+// Where the table says 0, anything else is no instruction, and breaks the rule.
+fn zeroed(field: u16, o: Ruling) -> Ruling
+    ensures { λ x. ⌜ x ≡ refuse (eqb field 0) unasked o ⌝ }
+{
+    if field != 0 {
+        return Ruling {
+            asked: false,
+            short: 0,
+        };
+    }
+    o
+}
+
+// The ruling of the instruction x at address l of the method whose record is r. The bundle is asked only for the class that a start names.
+// The opcode is looked at once.
+pub fn rule_of(b: &[u8], n: u8, k: Class, r: &[u8], l: Addr, x: Code) -> Ruling
+    ensures { λ o. ⌜ o ≡ ruling (k .vars) (ruleOf (programOf (now (b .entry))) (k .vars) (rowAt n k (now (r .entry))) (l .0) (decoded x)) ⌝ }
 {
     let p = rows::row_start(k, l);
     let q = rows::next_start(k, l);
     let h = rows::row_start(k, Addr(x.address));
     let operand = x.operand;
     let address = x.address;
+    let zero = operand as u16;
     let opcode = x.opcode;
     match opcode {
-        1 => (operand == 0) & ((address == 0) & inc_rule(n, k, r, p, q)),
-        2 => (operand == 0) & ((address == 0) & pop_rule(n, k, r, p, q)),
-        3 => (operand == 0) & ((address == 0) & push0_rule(n, k, r, p, q)),
-        4 => (address == 0) & load_rule(n, k, r, operand, p, q),
-        5 => (address == 0) & store_rule(n, k, r, operand, p, q),
-        6 => (operand == 0) & if_rule(n, k, r, p, q, h),
-        7 => (address == 0) & enter_rule(n, k, r, operand, p, q),
-        8 => (address == 0) & exit_rule(n, k, r, operand, p, q),
+        1 => zeroed(zero, zeroed(address, inc_rule(n, k, r, p, q))),
+        2 => zeroed(zero, zeroed(address, pop_rule(n, k, r, p, q))),
+        3 => zeroed(zero, zeroed(address, push0_rule(n, k, r, p, q))),
+        4 => zeroed(address, load_rule(n, k, r, operand, p, q)),
+        5 => zeroed(address, store_rule(n, k, r, operand, p, q)),
+        6 => zeroed(zero, if_rule(n, k, r, p, q, h)),
+        7 => zeroed(address, enter_rule(n, k, r, operand, p, q)),
+        8 => zeroed(address, exit_rule(n, k, r, operand, p, q)),
         9 => new_rule(n, k, r, operand, address, p, q, h),
-        10 => (address == 0) & start_of(b, n, k, r, operand, p, q),
-        11 => (operand == 0) & throw_rule(n, k, r, address, p, h),
-        12 => (operand == 0) & ((address == 0) & return_rule(n, k, r, p)),
-        _ => false,
+        10 => zeroed(address, start_of(b, n, k, r, operand, p, q)),
+        11 => zeroed(zero, throw_rule(n, k, r, address, p, h)),
+        12 => zeroed(zero, zeroed(address, return_rule(n, k, r, p))),
+        _ => Ruling {
+            asked: false,
+            short: 0,
+        },
     }
 }

@@ -4,10 +4,11 @@ use mathlib.Core.Bool.{true}
 use Prim.Native.Nat.{ℕ, _≤_, _<_}
 use Rattle.bundle.specs.Program.{Program}
 use Rattle.structure.proofs.Structured.{WellFormed}
-use Rattle.entries.specs.declared.Entry.the-variants.{Top}
+use Rattle.entries.specs.Entries.{Top}
 use Rattle.entries.specs.Entries.{endOf, isType, argumentEntry}
 use Rattle.entries.specs.Fits.{entryFits}
 use Rattle.rows.specs.Rows.{Row}
+use Rattle.rules.specs.Rule.{holds}
 use Rattle.rules.specs.Rules.{ruleOf}
 
 -- l is an address of class c
@@ -28,4 +29,4 @@ pub record Accepted (P : Program) (R : ℕ → ℕ → Row) : Type 0 where
   pub first-argument : (c i : ℕ) → c < P .classes → i < P .method c .args
       → entryFits (argumentEntry (P .method c .descriptor i)) (R c 1 .variable i) ≡ true
   pub first-other : (c i : ℕ) → c < P .classes → P .method c .args ≤ i → i < P .method c .vars → R c 1 .variable i ≡ Top
-  pub rule : (c l : ℕ) → Address P c l → ruleOf P (P .method c .vars) (R c) l (P .method c .instruction l) ≡ true
+  pub rule : (c l : ℕ) → Address P c l → holds (P .method c .vars) (ruleOf P (P .method c .vars) (R c) l (P .method c .instruction l)) ≡ true

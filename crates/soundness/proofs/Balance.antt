@@ -7,8 +7,8 @@ use native.Mathlib.Omega.{arith}
 use native.Mathlib.Decide.{ℕ-discrete}
 use Rattle.ground.specs.Bounded.{sumBelow}
 use Rattle.ground.proofs.Sums.{sum-le, sum-one, sum-two, sum-ge, sum-term, sum-some}
-use Rattle.entries.specs.declared.Entry.{Entry}
-use Rattle.entries.specs.declared.Entry.the-variants.{Blank}
+use Rattle.entries.specs.Entries.{Entry}
+use Rattle.entries.specs.Entries.{Blank}
 use Rattle.entries.specs.Entries.{noEnd, dipOf, endOf}
 use Rattle.values.specs.declared.Value.{Value}
 use Rattle.soundness.proofs.Kind.{Matches, more-kind}

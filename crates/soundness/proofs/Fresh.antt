@@ -6,12 +6,13 @@ use mathlib.Core.Bool.{Bool, true, false, cond}
 use native.Mathlib.Omega.{arith}
 use native.Mathlib.Decide.{decLt}
 use lib.Dec.{eqb}
+use borrow.Author.Tests.{eqb-true}
 use lib.IntN.{pos}
 use lib.ListN.{length, replicate, getD-replicate}
 use Rattle.ground.specs.Bounded.{setBelow}
 use Rattle.instructions.specs.Table.{addr}
 use Rattle.bundle.specs.Program.{Program}
-use Rattle.entries.specs.declared.Entry.the-variants.{Int, Top, Ref, Blank}
+use Rattle.entries.specs.Entries.{Int, Top, Ref, Blank}
 use Rattle.entries.specs.Entries.{noEnd, dipOf, endOf, argumentEntry}
 use Rattle.rows.specs.Rows.{Row}
 use Rattle.values.specs.declared.Value.the-variants.{Int as num}
@@ -22,7 +23,8 @@ use Rattle.threads.specs.Threads.{idle}
 use Rattle.state.specs.State.{countOf, classOf, emptyState}
 use Rattle.machine.specs.Machine.{mainThread, freshState}
 use Rattle.soundness.proofs.Kind.{Matches}
-use Rattle.soundness.proofs.Weights.{same-weaker, fits-weaker, gone-slot, fresh-slot}
+use Rattle.soundness.proofs.Held.{compared}
+use Rattle.soundness.proofs.Weights.{same-weaker, meets-weaker, gone-slot, fresh-slot}
 use Rattle.soundness.proofs.Weights as weights
 use Rattle.soundness.proofs.Balance.{keep-all, none-balanced}
 use Rattle.soundness.proofs.Slots.{slotOf, slot-var, slot-novar, slot-nostack}
@@ -62,11 +64,13 @@ module _ (P : Program) (R : ℕ → ℕ → Row) (A : Accepted P R) where
     born-live z m zero =
         record {
           alive = refl;
-          sized = record { vars = lv; stack = ls };
           address = record { class-known = lc; first = omega arith; last = A .formed .some-code c lc };
-          depth-exact = sym (A .first-depth c lc);
-          balanced = keep-all n cls (λ s. Blank) (valueIn vars stack) k (entryAt P R c 1) (valueIn vars stack)
-              (λ s l. each s l (decLt s (P .method c .args)) (decLt s Vars) (decLt s 16)) (none-balanced n cls (valueIn vars stack) k z);
+          stands = record {
+            sized = record { vars = lv; stack = ls };
+            depth-exact = sym (A .first-depth c lc);
+            balanced = keep-all n cls (λ s. Blank) (valueIn vars stack) k (entryAt P R c 1) (valueIn vars stack)
+                (λ s l. each s l (decLt s (P .method c .args)) (decLt s Vars) (decLt s 16)) (none-balanced n cls (valueIn vars stack) k z);
+          };
         }
       where
         v16 : Vars ≤ 16
@@ -78,7 +82,7 @@ module _ (P : Program) (R : ℕ → ℕ → Row) (A : Accepted P R) where
             rw (slot-var Vars v16 X s (omega (arith, A .formed .args-vars c lc)))
             (fresh-slot n cls (valueIn vars stack s) (argumentEntry (P .method c .descriptor s)) (X .variable s) (valueIn vars stack s)
             (argument-pair (P .method c .descriptor s) .0) (argument-pair (P .method c .descriptor s) .1) (m s a)
-            (fits-weaker (argumentEntry (P .method c .descriptor s)) (X .variable s) (A .first-argument c s lc a)))
+            (meets-weaker (argumentEntry (P .method c .descriptor s)) (X .variable s) (compared _ _ (eqb-true _ _ (A .first-argument c s lc a)))))
         each s l (no a) (yes b) d =
             rw (slot-var Vars v16 X s b, A .first-other c s lc (omega arith) b, zero s (omega arith) (omega (arith, v16)))
             (fresh-slot n cls (num (pos 0)) Top Top (num (pos 0)) refl refl tt (same-weaker Top))

@@ -7,21 +7,22 @@ use native.Mathlib.Omega.{arith}
 use native.Mathlib.Decide.{ℕ-discrete, decLt}
 use lib.ListN.{length, getD}
 use Rattle.bundle.specs.Program.{Program}
-use Rattle.entries.specs.declared.Entry.{Entry}
+use Rattle.entries.specs.Entries.{Entry}
 use Rattle.entries.specs.Entries.{noEnd, endOf}
 use Rattle.rows.specs.Rows.{Row}
 use Rattle.values.specs.Values.{zeroSlot, refers}
 use Rattle.threads.specs.declared.Thread.{Thread}
-use Rattle.threads.specs.Threads.{varOf}
+use Rattle.threads.specs.Threads.{varOf, entryOf}
 use Rattle.state.specs.declared.State.{State}
 use Rattle.state.specs.State.{threadAt, countOf, classOf}
 use Rattle.belongs.specs.Belongs.{stateOk}
 use Rattle.belongs.proofs.Belongs.{Placed, Counted, Belongs, belongs-intro}
 use Rattle.soundness.proofs.Kind.{type-refers}
 use Rattle.soundness.proofs.Weights.{names}
-use Rattle.soundness.proofs.Balance.{Balanced, count-bound, far-free, held-slot}
+use Rattle.soundness.proofs.Balance.{count-bound, far-free, held-slot}
 use Rattle.soundness.proofs.Slots.{slotOf, slot-var, slot-stack, slot-each}
 use Rattle.soundness.proofs.Values.{Sixteen, valueOf, value-var, value-place}
+use Rattle.soundness.proofs.Stands.{Stands, variable-kind, entry-kind}
 use Rattle.soundness.proofs.Accepted.{Address, Accepted}
 
 -- the entry of slot s at the address l of class c
@@ -31,10 +32,8 @@ entryAt P R c l s = slotOf (P .method c .vars) (R c l) s
 -- a live thread, with the counts k, among n objects of the classes cls: its depth is its row's, and its row's pairs are in balance with its counts
 pub record Live (P : Program) (R : ℕ → ℕ → Row) (n : ℕ) (cls k : ℕ → ℕ) (t : Thread) : Type 0 where
   pub alive : t .live ≡ true
-  pub sized : Sixteen t
   pub address : Address P (t .class) (t .at .0)
-  pub depth-exact : t .depth ≡ R (t .class) (t .at .0) .depth
-  pub balanced : Balanced n cls (entryAt P R (t .class) (t .at .0)) (valueOf t) k
+  pub stands : Stands (P .method (t .class) .vars) n cls k (R (t .class) (t .at .0)) t
 
 -- a thread that isn't live holds nothing
 pub record Asleep (k : ℕ → ℕ) (t : Thread) : Type 0 where
@@ -70,16 +69,16 @@ module _ (P : Program) (R : ℕ → ℕ → Row) (A : Accepted P R) (n : ℕ) (c
   limit-16 = A .formed .limit-16 (t .class) (h .address .class-known)
 
   pub depth-limit : t .depth ≤ P .method (t .class) .limit
-  depth-limit = omega (arith, h .depth-exact, A .depth-limit (t .class) (t .at .0) (h .address))
+  depth-limit = omega (arith, h .stands .depth-exact, A .depth-limit (t .class) (t .at .0) (h .address))
 
   pub bound-2016 : (o : ℕ) → o < 32 → k o ≤ 2016
   bound-2016 =
-      count-bound n cls (entryAt P R (t .class) (t .at .0)) (valueOf t) k (h .balanced)
+      count-bound n cls (entryAt P R (t .class) (t .at .0)) (valueOf t) k (h .stands .balanced)
       (λ s l. slot-each (P .method (t .class) .vars) vars-16 (R (t .class) (t .at .0)) (λ (e : Entry). 1 ≤ endOf e) (omega arith)
       (λ i _. A .variable-end (t .class) (t .at .0) i) (λ j _. A .stack-end (t .class) (t .at .0) j) s)
 
   pub off-object : (o : ℕ) → o < 32 → n ≤ o → k o ≡ 0
-  off-object = far-free n cls (entryAt P R (t .class) (t .at .0)) (valueOf t) k (h .balanced)
+  off-object = far-free n cls (entryAt P R (t .class) (t .at .0)) (valueOf t) k (h .stands .balanced)
 
   pub placed : Placed P n t
   placed =
@@ -90,15 +89,15 @@ module _ (P : Program) (R : ℕ → ℕ → Row) (A : Accepted P R) (n : ℕ) (c
         depth-limit = depth-limit;
         variable-refers = λ v l.
             type-refers n cls (R (t .class) (t .at .0) .variable v) (varOf t v .value) (A .variable-type (t .class) (t .at .0) v (h .address) l)
-            (rw (slot-var (P .method (t .class) .vars) vars-16 (R (t .class) (t .at .0)) v l, value-var t v (omega (arith, vars-16))) at (h .balanced .kinds v (omega (arith, vars-16))));
-        stack-refers = λ p l. stk p (t .depth - p - 1) (omega arith);
+            (variable-kind _ vars-16 n cls k _ t (omega (arith, depth-limit, limit-16)) (h .stands) v l);
+        stack-refers = λ p l. stk p (t .depth - 1 - p) (omega arith) (omega arith);
       }
     where
-      stk : (p j : ℕ) → p + j + 1 ≡ t .depth → refers n (getD (t .stack) p zeroSlot) ≡ true
-      stk p j q =
-          type-refers n cls (R (t .class) (t .at .0) .stack j) (getD (t .stack) p zeroSlot .value) (A .stack-type (t .class) (t .at .0) j (h .address) (omega (arith, h .depth-exact)))
-          (rw (slot-stack (P .method (t .class) .vars) vars-16 (R (t .class) (t .at .0)) (16 + p) j (omega arith) (omega (arith, h .depth-exact)), value-place t (16 + p) p refl)
-          at (h .balanced .kinds (16 + p) (omega (arith, depth-limit, limit-16))))
+      stk : (p j : ℕ) → t .depth - 1 - j ≡ p → j < t .depth → refers n (getD (t .stack) p zeroSlot) ≡ true
+      stk p j q l =
+          rw q
+          at (type-refers n cls (R (t .class) (t .at .0) .stack j) (entryOf t j .value) (A .stack-type (t .class) (t .at .0) j (h .address) (omega (arith, h .stands .depth-exact)))
+          (entry-kind _ vars-16 n cls k _ t (omega (arith, depth-limit, limit-16)) (h .stands) j l))
 
 -- ---- the invariant rules out answer 18, and bounds every count
 module _ (P : Program) (R : ℕ → ℕ → Row) (A : Accepted P R) (s : State) (inv : Inv P R s) where
@@ -150,4 +149,4 @@ pub holder : (P : Program) (R : ℕ → ℕ → Row) (s : State) → Inv P R s �
     → (p : ℕ) × (p < 32) × (names o (valueOf (threadAt s i) p) ≡ true) × (endOf (entryAt P R (threadAt s i .class) (threadAt s i .at .0) p) < noEnd)
 holder P R s inv i o l k a h =
     held-slot (s .objects) (classOf s) (entryAt P R (threadAt s i .class) (threadAt s i .at .0)) (valueOf (threadAt s i)) (countOf (s .counts) i)
-    (inv .thread i l .live a .balanced) o k h
+    (inv .thread i l .live a .stands .balanced) o k h

@@ -1,15 +1,15 @@
 -- Which values an entry may stand for: kinds, apart from what an entry weighs. There are n objects, of the classes cls.
-use mathlib.Core.Path.{_≡_, refl, sym, _∙_}
+use mathlib.Core.Path.{_≡_, refl, _∙_}
 use mathlib.Core.Bool.{Bool, true, false, cond, false≢true}
 use Prim.Native.Nat.{ℕ, _≤_, _<_}
 use native.Mathlib.Omega.{arith}
 use lib.Dec.{eqb}
 use borrow.Author.Tests.{eqb-true, lt-ltb}
-use Rattle.ground.proofs.Bools.{and-fst}
-use Rattle.entries.specs.declared.Entry.{Entry}
-use Rattle.entries.specs.declared.Entry.the-variants.{Int, Top, Ref, Blank, Malformed}
-use Rattle.entries.specs.Entries.{noEnd, isInt, isType, isOf, argumentEntry, matches}
-use Rattle.entries.specs.Fits.{entryFits, pairFits, goesAs}
+use Rattle.entries.specs.Entries.{Entry}
+use Rattle.entries.specs.Entries.{Int, Top, Ref, Blank, Malformed}
+use Rattle.entries.specs.Entries.{noEnd, isInt, isReference, isType, isOf, argumentEntry, matches}
+use Rattle.entries.specs.Entries as entries
+use Rattle.entries.specs.Fits.{takes}
 use Rattle.values.specs.declared.Value.{Value}
 use Rattle.values.specs.declared.Value.the-variants.{Int as num, Ref as obj}
 use Rattle.values.specs.Values.{isIntValue, objectOfValue, refersValue, incValue}
@@ -30,46 +30,28 @@ nope e = absurd (false≢true e)
 
 module _ (n : ℕ) (cls : ℕ → ℕ) where
   -- ---- from one entry to another
-  pub fits-kind : (e f : Entry) (v : Value) → entryFits e f ≡ true → Matches n cls e v → Matches n cls f v
-  unfolding pairFits
-  fits-kind Int Int v h m = m
-  fits-kind Int Top (num z) h m = m
-  fits-kind Int Top (obj r) h m = absurd m
-  fits-kind Int (Ref c d e) v h m = nope h
-  fits-kind Int Blank v h m = tt
-  fits-kind Int Malformed v h m = tt
-  fits-kind Top Int v h m = nope h
-  fits-kind Top Top v h m = m
-  fits-kind Top (Ref c d e) v h m = nope h
-  fits-kind Top Blank v h m = tt
-  fits-kind Top Malformed v h m = tt
-  fits-kind (Ref c d e) Int v h m = nope h
-  fits-kind (Ref c d e) Top (num z) h m = absurd m
-  fits-kind (Ref c d e) Top (obj r) h m = m .0
-  fits-kind (Ref c d e) (Ref c′ d′ e′) (num z) h m = absurd m
-  fits-kind (Ref c d e) (Ref c′ d′ e′) (obj r) h m = (m .0, m .1 ∙ eqb-true c c′ (search and-fst))
-  fits-kind (Ref c d e) Blank v h m = tt
-  fits-kind (Ref c d e) Malformed v h m = tt
-  fits-kind Blank Int v h m = nope h
-  fits-kind Blank Top v h m = nope h
-  fits-kind Blank (Ref c d e) v h m = nope h
-  fits-kind Blank Blank v h m = tt
-  fits-kind Blank Malformed v h m = tt
-  fits-kind Malformed Int v h m = nope h
-  fits-kind Malformed Top v h m = nope h
-  fits-kind Malformed (Ref c d e) v h m = nope h
-  fits-kind Malformed Blank v h m = tt
-  fits-kind Malformed Malformed v h m = tt
-
-  -- a reference goes on as Top or as its own class
-  pub goes-kind : (c d e : ℕ) (f : Entry) (v : Value) → goesAs c f ≡ true → Matches n cls (Ref c d e) v → Matches n cls f v
-  goes-kind c d e Int v h m = nope h
-  goes-kind c d e Top (num z) h m = absurd m
-  goes-kind c d e Top (obj r) h m = m .0
-  goes-kind c d e (Ref c′ d′ e′) (num z) h m = absurd m
-  goes-kind c d e (Ref c′ d′ e′) (obj r) h m = (m .0, m .1 ∙ eqb-true c c′ h)
-  goes-kind c d e Blank v h m = tt
-  goes-kind c d e Malformed v h m = tt
+  pub takes-kind : (f e : Entry) (v : Value) → takes f e ≡ true → Matches n cls e v → Matches n cls f v
+  unfolding takes
+  takes-kind Int Int v h m = m
+  takes-kind Int Top v h m = nope h
+  takes-kind Int (Ref c d e) v h m = nope h
+  takes-kind Int Blank v h m = nope h
+  takes-kind Int Malformed v h m = nope h
+  takes-kind Top Int (num z) h m = m
+  takes-kind Top Int (obj r) h m = absurd m
+  takes-kind Top Top v h m = m
+  takes-kind Top (Ref c d e) (num z) h m = absurd m
+  takes-kind Top (Ref c d e) (obj r) h m = m .0
+  takes-kind Top Blank v h m = nope h
+  takes-kind Top Malformed v h m = nope h
+  takes-kind (Ref c d e) Int v h m = nope h
+  takes-kind (Ref c d e) Top v h m = nope h
+  takes-kind (Ref c d e) (Ref c′ d′ e′) (num z) h m = absurd m
+  takes-kind (Ref c d e) (Ref c′ d′ e′) (obj r) h m = (m .0, m .1 ∙ eqb-true c′ c h)
+  takes-kind (Ref c d e) Blank v h m = nope h
+  takes-kind (Ref c d e) Malformed v h m = nope h
+  takes-kind Blank x v h m = tt
+  takes-kind Malformed x v h m = tt
 
   -- more objects
   pub more-kind : (n′ : ℕ) (cls′ : ℕ → ℕ) → n ≤ n′ → ((r : ℕ) → r < n → cls′ r ≡ cls r) → (e : Entry) (v : Value)
@@ -92,25 +74,25 @@ module _ (n : ℕ) (cls : ℕ → ℕ) where
   int-value Blank v h m = nope h
   int-value Malformed v h m = nope h
 
-  pub int-inc : (e f : Entry) (v : Value) → isInt e ≡ true → entryFits Int f ≡ true → Matches n cls e v → Matches n cls f (incValue v)
-  int-inc e f (num z) h g m = fits-kind Int f _ g tt
-  int-inc Int f (obj r) h g m = absurd m
-  int-inc Top f (obj r) h g m = nope h
-  int-inc (Ref c d e) f (obj r) h g m = nope h
-  int-inc Blank f (obj r) h g m = nope h
-  int-inc Malformed f (obj r) h g m = nope h
+  pub int-inc : (e : Entry) (v : Value) → isInt e ≡ true → Matches n cls e v → Matches n cls Int (incValue v)
+  int-inc e (num z) h m = tt
+  int-inc e (obj r) h m = absurd (false≢true (int-value e (obj r) h m))
 
   -- a reference: the value is an object
-  pub ref-value : (c d e : ℕ) (v : Value) → Matches n cls (Ref c d e) v
-      → (isIntValue v ≡ false) × (objectOfValue v < n) × (cls (objectOfValue v) ≡ c) × (v ≡ obj (objectOfValue v))
-  ref-value c d e (num z) m = absurd m
-  ref-value c d e (obj r) m = (refl, m .0, m .1, refl)
+  pub ref-value : (e : Entry) (v : Value) → isReference e ≡ true → Matches n cls e v
+      → (isIntValue v ≡ false) × (objectOfValue v < n) × (cls (objectOfValue v) ≡ entries.classOf e) × (v ≡ obj (objectOfValue v))
+  ref-value Int v h m = nope h
+  ref-value Top v h m = nope h
+  ref-value (Ref c d e) (num z) h m = absurd m
+  ref-value (Ref c d e) (obj r) h m = (refl, m .0, m .1, refl)
+  ref-value Blank v h m = nope h
+  ref-value Malformed v h m = nope h
 
   pub of-value : (c : ℕ) (e : Entry) (v : Value) → isOf c e ≡ true → Matches n cls e v → Matches n cls (Ref c 0 noEnd) v
   of-value c Int v h m = nope h
   of-value c Top v h m = nope h
   of-value c (Ref c′ d e) (num z) h m = absurd m
-  of-value c (Ref c′ d e) (obj r) h m = (m .0, m .1 ∙ sym (eqb-true c c′ h))
+  of-value c (Ref c′ d e) (obj r) h m = (m .0, m .1 ∙ eqb-true c′ c h)
   of-value c Blank v h m = nope h
   of-value c Malformed v h m = nope h
 

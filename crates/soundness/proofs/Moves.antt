@@ -39,10 +39,12 @@ module _ (P : Program) (R : ℕ → ℕ → Row) where
       record {
         live = λ a. record {
           alive = a;
-          sized = h .live a .sized;
           address = h .live a .address;
-          depth-exact = h .live a .depth-exact;
-          balanced = balanced-more n cls (entryAt P R (t .class) (t .at .0)) (valueOf t) k (h .live a .balanced) n′ cls′ k′ ln lc qk;
+          stands = record {
+            sized = h .live a .stands .sized;
+            depth-exact = h .live a .stands .depth-exact;
+            balanced = balanced-more n cls (entryAt P R (t .class) (t .at .0)) (valueOf t) k (h .live a .stands .balanced) n′ cls′ k′ ln lc qk;
+          };
         };
         asleep = λ a. record { sized = h .asleep a .sized; free = λ o l. qk o l ∙ h .asleep a .free o l };
       }

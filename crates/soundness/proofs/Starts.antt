@@ -1,22 +1,26 @@
 -- start: the starter gives up its arguments and the object, and a thread is born with them.
 use Prim.Native.Nat.{ℕ, _+_, _≤_, _<_}
-use mathlib.Core.Path.{_≡_, _∙_}
+use mathlib.Core.Path.{_≡_, refl, _∙_}
 use mathlib.Core.List.{List}
 use mathlib.Core.Bool.{Bool, true, false, cond, _&&_}
 use native.Mathlib.Omega.{arith}
 use native.Mathlib.Decide.{ℕ-discrete}
-use lib.Dec.{eqb}
+use lib.Dec.{leb, eqb}
 use lib.ListN.{getD, replicate, length-replicate}
-use borrow.Author.Tests.{not-true, le-leb, ltb-true, eq-eqb}
+use borrow.Author.Tests.{not-true, leb-true, le-leb, ltb-true, eq-eqb}
 use Rattle.ground.specs.Bounded.{setBelow}
 use Rattle.ground.proofs.Bools.{and-fst, and-snd}
 use Rattle.ground.proofs.Bounded.{all-elim, all-intro, first-is}
 use Rattle.ground.proofs.Writes.{set-length}
 use Rattle.bundle.specs.Program.{Program}
-use Rattle.entries.specs.declared.Entry.{Entry}
+use Rattle.entries.specs.Entries.{Entry}
+use Rattle.entries.specs.Entries.{Ref}
 use Rattle.entries.specs.Entries.{noEnd, isInt, isOf, matches}
 use Rattle.entries.specs.Fits.{mayGo}
 use Rattle.rows.specs.Rows.{Row}
+use Rattle.matching.specs.Matching.{wants, edge}
+use Rattle.matching.specs.Matching as rows
+use Rattle.rules.specs.Rule.{holds}
 use Rattle.rules.specs.Rules.{argumentGoes, argumentsGo, objectGoes, startRule}
 use Rattle.values.specs.declared.Slot.{Slot}
 use Rattle.values.specs.Values.{zeroSlot}
@@ -27,18 +31,20 @@ use Rattle.state.specs.declared.State.{State}
 use Rattle.state.specs.State.{threadAt, countOf, classOf, withThread, notLive, lowestFree}
 use Rattle.machine.specs.Instructions.{isObject, isArgument, argumentAt, argumentsOk, startedBy, startStep}
 use Rattle.soundness.proofs.Kind.{Matches, int-value, of-value, ref-value, argument-kind}
-use Rattle.soundness.proofs.Slots.{Rest, rest-all}
+use Rattle.soundness.proofs.Held.{Fits, held}
+use Rattle.soundness.proofs.Weights.{goes-end}
 use Rattle.soundness.proofs.Values.{value-argument, value-zero}
 use Rattle.soundness.proofs.Accepted.{Address, Accepted}
 use Rattle.soundness.proofs.Invariant.{Live, Asleep, Inv}
 use Rattle.soundness.proofs.Moves.{others, live-standing, thread-moves, Good, went, passes, either}
-use Rattle.soundness.proofs.Places.{entry-kind, has-entries, pop-live}
+use Rattle.soundness.proofs.Stands.{Stands, entry-kind, pop-stands, fit-stands}
+use Rattle.soundness.proofs.Goes.{arrives, v16, d16, at-here}
 use Rattle.soundness.proofs.Fresh.{born-live}
 
 -- ---- no fault 13
 object-is : (n : ℕ) (classes : List ℕ) (c : ℕ) (e : Entry) (x : Slot) → isOf c e ≡ true → Matches n (λ o. getD classes o 0) e (x .value) → isObject classes c x ≡ true
 object-is n classes c e x h m =
-    let r = ref-value n (λ o. getD classes o 0) c 0 noEnd (x .value) (of-value n (λ o. getD classes o 0) c e (x .value) h m) in
+    let r = ref-value n (λ o. getD classes o 0) (Ref c 0 noEnd) (x .value) refl (of-value n (λ o. getD classes o 0) c e (x .value) h m) in
     rw (r .0, eq-eqb _ _ (r .2))
 
 argument-is : (n : ℕ) (classes : List ℕ) (d : ℕ) (e : Entry) (x : Slot) → matches d e ≡ true → Matches n (λ o. getD classes o 0) e (x .value) → isArgument classes d x ≡ true
@@ -65,34 +71,40 @@ module _ (P : Program) (R : ℕ → ℕ → Row) (A : Accepted P R) (s : State) 
   abbrev Next : Type 0
   Next = Address P (threadAt s i .class) (threadAt s i .at .0 + 1)
 
-  abbrev args : ℕ
-  args = P .method c .args
-
-  abbrev descriptor : ℕ → ℕ
-  descriptor = P .method c .descriptor
-
   abbrev cls : ℕ → ℕ
   cls = classOf s
 
   abbrev cnt : ℕ → ℕ
   cnt = countOf (s .counts) i
 
-  H : Live P R (s .objects) cls cnt T
-  H = inv .thread i li .live lv
+  st : Stands vars (s .objects) cls cnt here T
+  st = at-here P R A s inv i li lv
+
+  w16 : vars ≤ 16
+  w16 = v16 P R A s inv i li lv
+
+  e16 : T .depth ≤ 16
+  e16 = d16 P R A s inv i li lv
+
+  abbrev args : ℕ
+  args = P .method c .args
+
+  abbrev descriptor : ℕ → ℕ
+  descriptor = P .method c .descriptor
 
   n16 : args ≤ 16
   n16 = omega (arith, A .formed .args-vars c lc, A .formed .vars-16 c lc)
 
-  module _ (ag : argumentsGo args descriptor here ≡ true) (og : objectGoes c here args ≡ true) (r : Rest vars here next 32 (args + 1) 0) where
+  module _ (ag : argumentsGo args descriptor here ≡ true) (og : objectGoes c here args ≡ true) (en : args + 1 ≤ here .depth) (f : Fits vars (edge (rows.popped (args + 1) here) (wants next))) where
     enough : args + 1 ≤ T .depth
-    enough = has-entries P R A (s .objects) cls cnt T H next 32 (args + 1) 0 r
+    enough = omega (arith, st .depth-exact)
 
     argument-goes : (j : ℕ) → j < args → (matches (descriptor j) (here .stack j) && mayGo (here .stack j)) ≡ true
     unfolding argumentsGo argumentGoes
     argument-goes j l = all-elim (argumentGoes descriptor here) args ag j l
 
     kind : (j : ℕ) → j ≤ args → Matches (s .objects) cls (here .stack j) (entryOf T j .value)
-    kind j l = entry-kind P R A (s .objects) cls cnt T H j (omega (arith, enough))
+    kind j l = entry-kind vars w16 (s .objects) cls cnt here T e16 st j (omega (arith, enough))
 
     all-go : (j : ℕ) → j < args + 1 → mayGo (here .stack j) ≡ true
     unfolding objectGoes
@@ -124,7 +136,7 @@ module _ (P : Program) (R : ℕ → ℕ → Row) (A : Accepted P R) (s : State) 
 
     -- the starter goes on
     starts : Next → (j : ℕ) → j < 8 → threadAt s j .live ≡ false → Good P R s i (startedBy s i T args c j)
-    unfolding startedBy
+    unfolding startedBy popped
     starts ad j lj d =
         let u : Thread = started (threadAt s j) T c args in
         let one : Inv P R (withThread s j u) =
@@ -133,19 +145,23 @@ module _ (P : Program) (R : ℕ → ℕ → Row) (A : Accepted P R) (s : State) 
         went P R s i _
         (thread-moves P R (withThread s j u) i li (others P R (withThread s j u) one i) _
         (live-standing P R (s .objects) cls cnt (withAt (popped (args + 1) T) (T .at .0 + 1))
-        (pop-live P R A (s .objects) cls cnt T H (args + 1) (T .at .0 + 1) ad r all-go)))
+        (arrives P R (s .objects) cls cnt (popped (args + 1) T) (T .class) (T .at .0 + 1) lv refl ad
+        (fit-stands vars w16 (s .objects) cls cnt (rows.popped (args + 1) here) next (popped (args + 1) T) f
+        (pop-stands vars w16 (s .objects) cls cnt here T e16 st (args + 1) en (λ k l. goes-end (here .stack k) (all-go k l)))))))
 
   free-is : lowestFree s < 8 → threadAt s (lowestFree s) .live ≡ false
   unfolding lowestFree
   free-is l = not-true _ (first-is 8 (notLive s) l)
 
-  pub start-good : Next → startRule vars args descriptor c here next ≡ true → Good P R s i (startStep s i T args descriptor c)
+  pub start-good : Next → holds vars (startRule args descriptor c here next) ≡ true → Good P R s i (startStep s i T args descriptor c)
   unfolding startRule startStep
   start-good ad e =
+      let r = held vars (startRule args descriptor c here next) e in
+      let a : (leb (args + 1) (here .depth) && argumentsGo args descriptor here && objectGoes c here args) ≡ true = r .0 in
+      let en : args + 1 ≤ here .depth = leb-true _ _ (search (and-fst, and-snd)) in
       let ag : argumentsGo args descriptor here ≡ true = search (and-fst, and-snd) in
       let og : objectGoes c here args ≡ true = search (and-fst, and-snd) in
-      let r : Rest vars here next 32 (args + 1) 0 = rest-all vars (args + 1) 0 here next (search (and-fst, and-snd)) in
-      passes P R s i _ 11 _ (le-leb (args + 1) (T .depth) (enough ag og r))
-      (passes P R s i _ 13 _ (arguments-ok ag og r)
+      passes P R s i _ 11 _ (le-leb (args + 1) (T .depth) (enough ag og en (r .1 .0)))
+      (passes P R s i _ 13 _ (arguments-ok ag og en (r .1 .0))
       (either P R s i _ 4 _ (omega arith) (omega arith) inv
-      (λ f. let l : lowestFree s < 8 = ltb-true (lowestFree s) 8 f in starts ag og r ad (lowestFree s) l (free-is l))))
+      (λ f. let l : lowestFree s < 8 = ltb-true (lowestFree s) 8 f in starts ag og en (r .1 .0) ad (lowestFree s) l (free-is l))))

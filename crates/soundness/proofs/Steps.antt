@@ -1,6 +1,7 @@
 -- Every instruction of a live thread, under its row of the table and its rule, is a good step. A new instruction has its line here.
 use Prim.Native.Nat.{ℕ, _+_, _≤_, _<_}
 use mathlib.Core.Path.{_≡_, refl}
+use mathlib.Core.List.{[]}
 use mathlib.Core.Bool.{Bool, true, false, not, _||_}
 use native.Mathlib.Omega.{arith}
 use lib.Dec.{eqb}
@@ -12,13 +13,15 @@ use Rattle.instructions.specs.declared.Instruction.the-variants.{Inc, Pop, Push
 use Rattle.instructions.specs.Table.{targetOk, endsCode, lastOk, instructionOk}
 use Rattle.bundle.specs.Program.{Program}
 use Rattle.rows.specs.Rows.{Row}
-use Rattle.rules.specs.Rules.{ruleOf}
+use Rattle.rules.specs.Rule.{rule, holds}
+use Rattle.rules.specs.Rules.{throwRule, ruleOf}
 use Rattle.values.specs.Values.{objectOf}
 use Rattle.threads.specs.declared.Thread.{Thread}
 use Rattle.threads.specs.Threads.{varOf}
 use Rattle.state.specs.declared.State.{State}
 use Rattle.state.specs.State.{threadAt, countOf}
 use Rattle.machine.specs.Machine.{execOf, runOf}
+use Rattle.soundness.proofs.Held.{held}
 use Rattle.soundness.proofs.Kind.{nope}
 use Rattle.soundness.proofs.Accepted.{Address, Accepted}
 use Rattle.soundness.proofs.Invariant.{Inv}
@@ -62,9 +65,9 @@ module _ (P : Program) (R : ℕ → ℕ → Row) (A : Accepted P R) (s : State) 
   next x e h =
       record { class-known = here .class-known; first = omega arith; last = next-address code L x (search and-snd) e (here .last) }
 
-  exec-good : (fails : Bool) (x : Instruction) → instructionOk (P .classes) vars code L x ≡ true → ruleOf P vars (R C) L x ≡ true
+  exec-good : (fails : Bool) (x : Instruction) → instructionOk (P .classes) vars code L x ≡ true → holds vars (ruleOf P vars (R C) L x) ≡ true
       → Good P R s i (execOf P s i T (P .method C) fails x)
-  unfolding instructionOk targetOk
+  unfolding instructionOk targetOk throwRule
   exec-good fails Inc h r = inc-good P R A s inv i li lv (next Inc refl h) r
   exec-good fails Pop h r = pop-good P R A s inv i li lv (next Pop refl h) r
   exec-good fails Push0 h r = push0-good P R A s inv i li lv (next Push0 refl h) r
@@ -78,9 +81,9 @@ module _ (P : Program) (R : ℕ → ℕ → Row) (A : Accepted P R) (s : State) 
   exec-good fails (New c a) h r =
       new-good P R A s inv i li lv c a fails (ltb-true _ _ (search (and-fst, and-snd))) (leb-true _ _ (search (and-fst, and-snd))) (next (New c a) refl h) r
   exec-good fails (Start c) h r = start-good P R A s inv i li lv c (ltb-true _ _ (search and-fst)) (next (Start c) refl h) r
-  exec-good fails (Throw a) h r = throw-good P R A s inv i li lv a (leb-true _ _ (search and-fst)) r
+  exec-good fails (Throw a) h r = let q = held vars (throwRule vars (a .0) (R C L) (R C (a .0))) r in throw-good P R A s inv i li lv a (leb-true _ _ (search and-fst)) (q .0) (q .1)
   exec-good fails Return h r = return-good P R A s inv i li lv r
-  exec-good fails Nothing h r = nope r
+  exec-good fails Nothing h r = nope (held vars (rule false []) r .0)
 
   table-here : instructionOk (P .classes) vars code L (P .method C .instruction L) ≡ true
   table-here = A .formed .table C L (here .class-known) (here .first) (here .last)
@@ -95,5 +98,5 @@ module _ (P : Program) (R : ℕ → ℕ → Row) (A : Accepted P R) (s : State) 
   unfolding instructionOk
   exit-held v q =
       let h : instructionOk (P .classes) vars code L (Exit v) ≡ true = rw q at table-here in
-      let r : ruleOf P vars (R C) L (Exit v) ≡ true = rw q at (A .rule C L here) in
+      let r : holds vars (ruleOf P vars (R C) L (Exit v)) ≡ true = rw q at (A .rule C L here) in
       leaves-held P R A s inv i li lv v (ltb-true _ _ (search and-fst)) r

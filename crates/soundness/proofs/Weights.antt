@@ -1,19 +1,20 @@
 -- What an entry's pair weighs on an object, and what one slot does in a step that moves no count.
-use mathlib.Core.Path.{_≡_}
+use mathlib.Core.Path.{_≡_, refl}
 use mathlib.Core.Bool.{Bool, true, false, cond}
 use Prim.Native.Nat.{ℕ, _≤_}
 use native.Mathlib.Nat.{le-refl}
 use native.Mathlib.Omega.{arith}
 use lib.Dec.{eqb}
 use borrow.Author.Tests.{leb-true, ne-eqb}
-use Rattle.ground.proofs.Bools.{and-fst, and-snd}
-use Rattle.entries.specs.declared.Entry.{Entry}
-use Rattle.entries.specs.declared.Entry.the-variants.{Int, Top, Ref, Blank, Malformed}
-use Rattle.entries.specs.Entries.{noEnd, dipOf, endOf}
-use Rattle.entries.specs.Fits.{entryFits, pairFits, mayGo}
+use Rattle.ground.proofs.Bools.{never}
+use Rattle.entries.specs.Entries.{Entry}
+use Rattle.entries.specs.Entries.{Int, Top, Ref, Blank, Malformed}
+use Rattle.entries.specs.Entries.{noEnd, dipOf, endOf, isInt, isReference}
+use Rattle.entries.specs.Fits.{mayGo, want}
 use Rattle.values.specs.declared.Value.{Value}
 use Rattle.values.specs.declared.Value.the-variants.{Int as num, Ref as obj}
-use Rattle.soundness.proofs.Kind.{Matches, nope, fits-kind}
+use Rattle.soundness.proofs.Kind.{Matches, nope, takes-kind}
+use Rattle.soundness.proofs.Held.{Meets}
 
 -- the value refers to the object o
 abbrev pub names : ℕ → Value → Bool
@@ -48,48 +49,27 @@ pub record Weaker (e f : Entry) : Type 0 where
 pub same-weaker : (e : Entry) → Weaker e e
 same-weaker e = record { dip-less = le-refl _; end-less = le-refl _; kind = λ n cls v m. m }
 
-fits-weighs : (e f : Entry) → entryFits e f ≡ true → (dipOf f ≤ dipOf e) × (endOf f ≤ endOf e)
-unfolding pairFits
-fits-weighs Int Int h = omega arith
-fits-weighs Int Top h = omega arith
-fits-weighs Int (Ref c d e) h = nope h
-fits-weighs Int Blank h = nope h
-fits-weighs Int Malformed h = nope h
-fits-weighs Top Int h = nope h
-fits-weighs Top Top h = omega arith
-fits-weighs Top (Ref c d e) h = nope h
-fits-weighs Top Blank h = nope h
-fits-weighs Top Malformed h = nope h
-fits-weighs (Ref c d e) Int h = nope h
-fits-weighs (Ref c d e) Top h = (omega arith, leb-true noEnd e h)
-fits-weighs (Ref c d e) (Ref c′ d′ e′) h = (leb-true d′ d (search (and-fst, and-snd)), leb-true e′ e (search and-snd))
-fits-weighs (Ref c d e) Blank h = nope h
-fits-weighs (Ref c d e) Malformed h = nope h
-fits-weighs Blank Int h = nope h
-fits-weighs Blank Top h = nope h
-fits-weighs Blank (Ref c d e) h = nope h
-fits-weighs Blank Blank h = omega arith
-fits-weighs Blank Malformed h = nope h
-fits-weighs Malformed Int h = nope h
-fits-weighs Malformed Top h = nope h
-fits-weighs Malformed (Ref c d e) h = nope h
-fits-weighs Malformed Blank h = nope h
-fits-weighs Malformed Malformed h = omega arith
-
-pub fits-weaker : (e f : Entry) → entryFits e f ≡ true → Weaker e f
-fits-weaker e f h =
-    record {
-      dip-less = fits-weighs e f h .0;
-      end-less = fits-weighs e f h .1;
-      kind = λ n cls v m. fits-kind n cls e f v h m;
-    }
+-- THE FITTING LAW, of entries
+pub meets-weaker : (e f : Entry) → Meets e (want f) → Weaker e f
+meets-weaker e f h = record { dip-less = h .dip; end-less = h .end; kind = λ n cls v m. takes-kind n cls f e v (h .kind) m }
 
 pub goes-end : (e : Entry) → mayGo e ≡ true → noEnd ≤ endOf e
-goes-end Int h = omega arith
-goes-end Top h = omega arith
-goes-end (Ref c d e) h = leb-true noEnd e h
-goes-end Blank h = nope h
-goes-end Malformed h = nope h
+goes-end e h = leb-true noEnd (endOf e) h
+
+-- what is no reference weighs nothing
+pub plain-pair : (e : Entry) → isReference e ≡ false → (dipOf e ≡ 0) × (endOf e ≡ noEnd)
+plain-pair Int h = (refl, refl)
+plain-pair Top h = (refl, refl)
+plain-pair (Ref c d e) h = never refl h
+plain-pair Blank h = (refl, refl)
+plain-pair Malformed h = (refl, refl)
+
+pub int-goes : (e : Entry) → isInt e ≡ true → noEnd ≤ endOf e
+int-goes Int h = omega arith
+int-goes Top h = nope h
+int-goes (Ref c d e) h = nope h
+int-goes Blank h = nope h
+int-goes Malformed h = nope h
 
 -- an object that is not there weighs nothing
 pub far-end : (n : ℕ) (cls : ℕ → ℕ) (o : ℕ) (e : Entry) (v : Value) → n ≤ o → Matches n cls e v → noEnd ≤ end o e v

@@ -1,4 +1,4 @@
--- A verdict: its number, and the class and address that it names.
+-- A verdict: its number, the class and address that it names, and its why.
 use mathlib.Core.Bool.{Bool, not}
 use mathlib.Core.Logic.{_⊎_}
 use mathlib.Core.Path.{_≡_}
@@ -7,8 +7,13 @@ use lib.Dec.{eqb}
 use Rattle.ground.specs.Chain.{orThen, scan}
 use Rattle.structure.specs.declared.Verdict.{Verdict}
 
+-- why is 0 with every verdict but 9
 abbrev pub verdict : ℕ → ℕ → ℕ → Verdict
-verdict n c a = record { number = n; class = c; address = a }
+verdict n c a = record { number = n; class = c; address = a; why = 0 }
+
+-- 9: a rule fails, and why
+abbrev pub ruleFails : ℕ → ℕ → ℕ → Verdict
+ruleFails c a w = record { number = 9; class = c; address = a; why = w }
 
 abbrev pub isBad : Verdict → Bool
 isBad v = not (eqb (v .number) 0)

@@ -13,6 +13,7 @@ pub struct Verdict {
     pub number: u8,
     pub class: u8,
     pub address: u16,
+    pub why: u8,
 }
 
 fn length_ok(b: &[u8]) -> bool
@@ -47,6 +48,7 @@ fn head(b: &[u8]) -> Verdict
             number: 1,
             class: 0,
             address: 0,
+            why: 0,
         };
     }
     if !trailer_ok(b) {
@@ -54,6 +56,7 @@ fn head(b: &[u8]) -> Verdict
             number: 2,
             class: 0,
             address: 0,
+            why: 0,
         };
     }
     if !directory_ok(b) {
@@ -61,12 +64,14 @@ fn head(b: &[u8]) -> Verdict
             number: 3,
             class: 0,
             address: 0,
+            why: 0,
         };
     }
     Verdict {
         number: 0,
         class: 0,
         address: 0,
+        why: 0,
     }
 }
 
@@ -120,6 +125,7 @@ fn shape_of(b: &[u8], c: u8, k: Class) -> Verdict
             number: 4,
             class: c,
             address: 0,
+            why: 0,
         };
     }
     if !bundle::record_fits(b, k) {
@@ -127,6 +133,7 @@ fn shape_of(b: &[u8], c: u8, k: Class) -> Verdict
             number: 5,
             class: c,
             address: 0,
+            why: 0,
         };
     }
     if !descriptors_ok(bundle::classes(b), k, bundle::part_of(b, k)) {
@@ -134,12 +141,14 @@ fn shape_of(b: &[u8], c: u8, k: Class) -> Verdict
             number: 6,
             class: c,
             address: 0,
+            why: 0,
         };
     }
     Verdict {
         number: 0,
         class: 0,
         address: 0,
+        why: 0,
     }
 }
 
@@ -163,6 +172,7 @@ fn shapes(b: &[u8]) -> Verdict
         number: 0,
         class: 0,
         address: 0,
+        why: 0,
     }
 }
 
@@ -192,12 +202,14 @@ fn table_at(n: u8, c: u8, k: Class, r: &[u8], i: u16) -> Verdict
             number: 7,
             class: c,
             address: i + 1,
+            why: 0,
         };
     }
     Verdict {
         number: 0,
         class: 0,
         address: 0,
+        why: 0,
     }
 }
 
@@ -215,6 +227,7 @@ fn table_of(n: u8, c: u8, k: Class, r: &[u8]) -> Verdict
         number: 0,
         class: 0,
         address: 0,
+        why: 0,
     }
 }
 
@@ -239,6 +252,7 @@ fn tables(b: &[u8]) -> Verdict
         number: 0,
         class: 0,
         address: 0,
+        why: 0,
     }
 }
 
@@ -258,6 +272,7 @@ pub fn structure(b: &[u8]) -> Verdict
         number: 0,
         class: bundle::classes(b),
         address: 0,
+        why: 0,
     }
 }
 

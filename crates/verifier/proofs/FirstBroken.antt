@@ -21,8 +21,8 @@ use Rattle.structure.proofs.FirstBroken.{structure-first}
 use Rattle.verifier.specs.Verdict.{formAt, formsOf, formsOfClass, formsOfAll, ruleVerdict, rulesOf, rulesOfClass, rulesOfAll, verdictOf}
 use Rattle.verifier.specs.Places.{Place, structural, form, first, rule, Within, holds, drawn, rank}
 
-bad : (p : Place) → isBad (drawn p) ≡ true
-bad (structural p) = drawn-bad p
+bad : (b : List ℕ) (p : Place) → isBad (drawn b p) ≡ true
+bad b (structural p) = drawn-bad p
   where
     drawn-bad : (p : structure.Place) → isBad (structure.drawn p) ≡ true
     drawn-bad structure.whole = refl
@@ -32,16 +32,16 @@ bad (structural p) = drawn-bad p
     drawn-bad (structure.extent c) = refl
     drawn-bad (structure.descriptors c) = refl
     drawn-bad (structure.instruction c l) = refl
-bad (form c l) = refl
-bad (first c) = refl
-bad (rule c l) = refl
+bad b (form c l) = refl
+bad b (first c) = refl
+bad b (rule c l) = refl
 
 module _ (b : List ℕ) where
   abbrev J : (Place → Type 0) → Verdict → Type 0
-  J = Judges (holds b) drawn rank
+  J = Judges (holds b) (drawn b) rank
 
   abbrev B : (Place → Type 0) → (Place → Type 0) → Type 0
-  B = Before (holds b) drawn rank
+  B = Before (holds b) (drawn b) rank
 
   abbrev Only : Place → Place → Type 0
   Only p q = q ≡ p
@@ -97,7 +97,7 @@ module _ (b : List ℕ) where
   forms-judge c = judges-ascending _ _ _ (classAt b c .code) _ (λ i. With (form c (i + 1)) None) before each
     where
       each : (i : ℕ) → i < classAt b c .code → J (With (form c (i + 1)) None) (formAt (classes b) c (classAt b c) (partOf b (classAt b c)) i)
-      each i l = judges-refuse _ _ _ bad (form c (i + 1)) None _ (λ p q x y. absurd y) (judges-nothing _ _ _)
+      each i l = judges-refuse _ _ _ (bad b) (form c (i + 1)) None _ (λ p q x y. absurd y) (judges-nothing _ _ _)
 
       before : (i j : ℕ) → i < j → B (With (form c (i + 1)) None) (With (form c (j + 1)) None)
       before i j l p q (inl x) (inl y) = rw (x, y) (inr (refl, inr (refl, omega arith)))
@@ -111,12 +111,12 @@ module _ (b : List ℕ) where
   rules-judge : (c : ℕ) → J (Rules c) (rulesOfClass b c)
   unfolding rulesOfClass rulesOf ruleVerdict
   rules-judge c =
-      judges-refuse _ _ _ bad (first c) (λ q. (i : ℕ) × (i < classAt b c .code) × With (rule c (i + 1)) None q) _ row-1
+      judges-refuse _ _ _ (bad b) (first c) (λ q. (i : ℕ) × (i < classAt b c .code) × With (rule c (i + 1)) None q) _ row-1
       (judges-ascending _ _ _ (classAt b c .code) _ (λ i. With (rule c (i + 1)) None) before each)
     where
       each : (i : ℕ) → i < classAt b c .code
           → J (With (rule c (i + 1)) None) (ruleVerdict (programOf b) (classes b) c (classAt b c) (partOf b (classAt b c)) i)
-      each i l = judges-refuse _ _ _ bad (rule c (i + 1)) None _ (λ p q x y. absurd y) (judges-nothing _ _ _)
+      each i l = judges-refuse _ _ _ (bad b) (rule c (i + 1)) None _ (λ p q x y. absurd y) (judges-nothing _ _ _)
 
       before : (i j : ℕ) → i < j → B (With (rule c (i + 1)) None) (With (rule c (j + 1)) None)
       before i j l p q (inl x) (inl y) = rw (x, y) (inr (refl, inr (refl, omega arith)))

@@ -1,1 +1,2 @@
 pub mod FirstBroken
+pub mod WhyFirst

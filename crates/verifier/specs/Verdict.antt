@@ -8,10 +8,11 @@ use Rattle.bundle.specs.declared.Class.{Class}
 use Rattle.bundle.specs.Container.{classes, classAt, partOf, instructionAt}
 use Rattle.bundle.specs.Program.{Program, programOf}
 use Rattle.structure.specs.declared.Verdict.{Verdict}
-use Rattle.structure.specs.Verdicts.{verdict, pass, andThen, ascending}
+use Rattle.structure.specs.Verdicts.{verdict, ruleFails, pass, andThen, ascending}
 use Rattle.structure.specs.Structure.{structureOf}
 use Rattle.rows.specs.Rows.{rowAt}
 use Rattle.forms.specs.Forms.{rowFormed, firstRow}
+use Rattle.rules.specs.Rule.{Rule, holds, why}
 use Rattle.rules.specs.Rules.{ruleOf}
 
 -- n is the class count, k a class's directory numbers, r its record, P the program
@@ -21,7 +22,7 @@ formedAt n k r l = rowFormed (k .vars) (k .limit) (rowAt n k r l)
 abbrev pub firstAt : ℕ → Class → List ℕ → Bool
 firstAt n k r = firstRow (k .vars) (k .args) (at r) (rowAt n k r 1)
 
-abbrev pub ruleAt : Program → ℕ → Class → List ℕ → ℕ → Bool
+abbrev pub ruleAt : Program → ℕ → Class → List ℕ → ℕ → Rule
 ruleAt P n k r l = ruleOf P (k .vars) (rowAt n k r) l (instructionAt k r l)
 
 -- 8 at the address i + 1 of class c
@@ -37,9 +38,9 @@ formsOfClass b c = let k = classAt b c in formsOf (classes b) c k (partOf b k)
 unfoldable pub formsOfAll : List ℕ → Verdict
 formsOfAll b = ascending (classes b) (formsOfClass b)
 
--- 9 at the address i + 1 of class c
+-- 9 at the address i + 1 of class c, and why
 unfoldable pub ruleVerdict : Program → ℕ → ℕ → Class → List ℕ → ℕ → Verdict
-ruleVerdict P n c k r i = refuse (ruleAt P n k r (i + 1)) (verdict 9 c (i + 1)) pass
+ruleVerdict P n c k r i = let x = ruleAt P n k r (i + 1) in refuse (holds (k .vars) x) (ruleFails c (i + 1) (why (k .vars) x)) pass
 
 -- 10 and then 9 ascending
 unfoldable pub rulesOf : Program → ℕ → ℕ → Class → List ℕ → Verdict

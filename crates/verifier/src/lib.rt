@@ -16,12 +16,14 @@ fn form_at(n: u8, c: u8, k: Class, r: &[u8], i: u16) -> Verdict
             number: 8,
             class: c,
             address: i + 1,
+            why: 0,
         };
     }
     Verdict {
         number: 0,
         class: 0,
         address: 0,
+        why: 0,
     }
 }
 
@@ -39,6 +41,7 @@ fn forms_of(n: u8, c: u8, k: Class, r: &[u8]) -> Verdict
         number: 0,
         class: 0,
         address: 0,
+        why: 0,
     }
 }
 
@@ -63,6 +66,7 @@ fn forms_of_all(b: &[u8]) -> Verdict
         number: 0,
         class: 0,
         address: 0,
+        why: 0,
     }
 }
 
@@ -71,17 +75,20 @@ fn rule_verdict(b: &[u8], n: u8, c: u8, k: Class, r: &[u8], i: u16) -> Verdict
     ensures { λ o. ⌜ o ≡ ruleVerdict (programOf (now (b .entry))) n c k (now (r .entry)) i ⌝ }
 {
     let l = Addr(i + 1);
-    if !rules::rule_of(b, n, k, r, l, bundle::code_at(k, r, l)) {
+    let o = rules::rule_of(b, n, k, r, l, bundle::code_at(k, r, l));
+    if !(o.asked & (o.short == 0)) {
         return Verdict {
             number: 9,
             class: c,
             address: i + 1,
+            why: o.short,
         };
     }
     Verdict {
         number: 0,
         class: 0,
         address: 0,
+        why: 0,
     }
 }
 
@@ -93,6 +100,7 @@ fn rules_of(b: &[u8], n: u8, c: u8, k: Class, r: &[u8]) -> Verdict
             number: 10,
             class: c,
             address: 0,
+            why: 0,
         };
     }
     let code = k.code;
@@ -106,6 +114,7 @@ fn rules_of(b: &[u8], n: u8, c: u8, k: Class, r: &[u8]) -> Verdict
         number: 0,
         class: 0,
         address: 0,
+        why: 0,
     }
 }
 
@@ -130,6 +139,7 @@ fn rules_of_all(b: &[u8]) -> Verdict
         number: 0,
         class: 0,
         address: 0,
+        why: 0,
     }
 }
 
@@ -153,5 +163,6 @@ pub fn verify(b: &[u8]) -> Verdict
         number: 0,
         class: bundle::classes(b),
         address: 0,
+        why: 0,
     }
 }

@@ -1,3 +1,4 @@
+use Rattle.entries.proofs.Words.{reference-word}
 use borrow.Author.Needs.{needs}
 use Rattle.entries.proofs.is_reference.Statement.{statement}
 use Rattle.entries.proofs.is_reference.Tie as tie
@@ -18,7 +19,7 @@ pair-ok-requires : tie.Need-pair-ok-requires
 pair-ok-requires c κs = search needs
 
 returns : tie.Need-returns
-returns c = rw (c .before .before .before .before .kind-in .ensures, c .pair-ok .ensures, c .before .before .before .class-in .ensures, c .before .before .dip-in .ensures, c .before .end-in .ensures)
+returns c = rw (c .before .before .before .before .kind-in .ensures, c .pair-ok .ensures, c .before .before .before .class-in .ensures, c .before .before .dip-in .ensures, c .before .end-in .ensures) (reference-word _ _)
 
 pub is-reference-spec : {M : Type 1} → statement M
 is-reference-spec =

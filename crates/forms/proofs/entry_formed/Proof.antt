@@ -8,20 +8,20 @@ use Rattle.forms.proofs.entry_formed.Tie as tie
 stack-word-requires : tie.Need-stack-word-requires
 stack-word-requires c κs = search needs
 
-typed-requires : tie.Need-typed-requires
-typed-requires c κs = search needs
+is-type-requires : tie.Need-is-type-requires
+is-type-requires c κs = search needs
 
 returns : tie.Need-returns
 unfolding entryFormed stackAt
-returns c = rw (rw (c .before .before .before .before .pre) at (lt-ltb _ _ (c .before .if1 .taken)), ← c .before .before .stack-word .ensures) (c .typed .ensures)
+returns c = rw (rw (c .before .before .before .before .pre) at (lt-ltb _ _ (c .before .if1 .taken)), ← c .before .before .stack-word .ensures) (c .is-type .ensures)
 
-blank-requires : tie.Need-blank-requires
-blank-requires c κs = search needs
+is-blank-requires : tie.Need-is-blank-requires
+is-blank-requires c κs = search needs
 
 returns-2 : tie.Need-returns-2
 unfolding entryFormed stackAt
-returns-2 c = rw (rw (c .before .before .before .before .pre) at (le-ltb _ _ (c .before .if1 .left)), ← c .before .before .stack-word .ensures) (c .blank .ensures)
+returns-2 c = rw (rw (c .before .before .before .before .pre) at (le-ltb _ _ (c .before .if1 .left)), ← c .before .before .stack-word .ensures) (c .is-blank .ensures)
 
 pub entry-formed-spec : {M : Type 1} → statement M
 entry-formed-spec =
-    tie.close (tie.spec stack-word-requires typed-requires returns blank-requires returns-2)
+    tie.close (tie.spec stack-word-requires is-type-requires returns is-blank-requires returns-2)

@@ -1,11 +1,12 @@
+use Rattle.rows.specs.Rows.{stackAt}
 use Rattle.ground.proofs.Bools.{passed, failed}
 use Rattle.rules.specs.Rules.{argumentGoes}
 use borrow.Author.Needs.{needs}
 use Rattle.rules.proofs.argument_goes.Statement.{statement}
 use Rattle.rules.proofs.argument_goes.Tie as tie
 
-stack-at-requires : tie.Need-stack-at-requires
-stack-at-requires c κs = search needs
+stack-word-requires : tie.Need-stack-word-requires
+stack-word-requires c κs = search needs
 
 byte-requires : tie.Need-byte-requires
 byte-requires c κs = search needs
@@ -14,17 +15,17 @@ matches-requires : tie.Need-matches-requires
 matches-requires c κs = search needs
 
 returns : tie.Need-returns
-unfolding argumentGoes
-returns c = rw (← c .before .before .before .stack-at .ensures, ← c .before .before .byte .ensures, failed (c .before .matches .ensures) (c .if1 .taken))
+unfolding argumentGoes stackAt
+returns c = rw (← c .before .before .before .stack-word .ensures, ← c .before .before .byte .ensures, failed (c .before .matches .ensures) (c .if1 .taken))
 
 may-go-requires : tie.Need-may-go-requires
 may-go-requires c κs = search needs
 
 returns-2 : tie.Need-returns-2
-unfolding argumentGoes
-returns-2 c = rw (← c .before .before .before .before .stack-at .ensures, ← c .before .before .before .byte .ensures, passed (c .before .before .matches .ensures) (c .before .if1 .left)) (c .may-go .ensures)
+unfolding argumentGoes stackAt
+returns-2 c = rw (← c .before .before .before .before .stack-word .ensures, ← c .before .before .before .byte .ensures, passed (c .before .before .matches .ensures) (c .before .if1 .left)) (c .may-go .ensures)
 
 pub argument-goes-spec : {M : Type 1} → statement M
 argument-goes-spec =
     tie.close
-    (tie.spec stack-at-requires byte-requires matches-requires returns may-go-requires returns-2)
+    (tie.spec stack-word-requires byte-requires matches-requires returns may-go-requires returns-2)

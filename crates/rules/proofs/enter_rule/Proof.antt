@@ -1,36 +1,25 @@
-use Rattle.ground.proofs.Bools.{passed, failed}
+use Rattle.rules.proofs.Judging.{found, short-one}
 use Rattle.rules.specs.Rules.{enterRule}
+use Rattle.rules.specs.Rule.{ruling}
+use Rattle.ground.proofs.Chain.{stop, go}
+use mathlib.Core.Path.{sym, ap, _∙_}
 use borrow.Author.Needs.{needs}
 use Rattle.rules.proofs.enter_rule.Statement.{statement}
 use Rattle.rules.proofs.enter_rule.Tie as tie
 
-variable-at-requires : tie.Need-variable-at-requires
-variable-at-requires c κs = search needs
-
-variable-at-requires-2 : tie.Need-variable-at-requires-2
-variable-at-requires-2 c κs = search needs
-
-enter-moves-requires : tie.Need-enter-moves-requires
-enter-moves-requires c κs = search needs
+enter-asks-requires : tie.Need-enter-asks-requires
+enter-asks-requires c κs = search needs
 
 returns : tie.Need-returns
-unfolding enterRule
-returns c = rw (← c .before .before .before .variable-at .ensures, ← c .before .before .variable-at2 .ensures, failed (c .before .enter-moves .ensures) (c .if1 .taken))
+unfolding ruling
+returns c = stop _ _ (c .before .enter-asks .ensures) (c .if1 .taken)
 
-rest-fits-but-requires : tie.Need-rest-fits-but-requires
-rest-fits-but-requires c κs = search needs
+entered-edge-requires : tie.Need-entered-edge-requires
+entered-edge-requires c κs = search needs
 
 returns-2 : tie.Need-returns-2
-unfolding enterRule
-returns-2 c = rw (← c .before .before .before .before .variable-at .ensures, ← c .before .before .before .variable-at2 .ensures, passed (c .before .before .enter-moves .ensures) (c .before .if1 .left)) (c .rest-fits-but .ensures)
+unfolding ruling enterRule
+returns-2 c = go _ (c .before .before .enter-asks .ensures) (c .before .if1 .left) (ap found (c .entered-edge .ensures ∙ sym (short-one _ _ _)))
 
 pub enter-rule-spec : {M : Type 1} → statement M
-enter-rule-spec =
-    tie.close
-    (tie.spec
-    variable-at-requires
-    variable-at-requires-2
-    enter-moves-requires
-    returns
-    rest-fits-but-requires
-    returns-2)
+enter-rule-spec = tie.close (tie.spec enter-asks-requires returns entered-edge-requires returns-2)

@@ -1,36 +1,25 @@
-use Rattle.ground.proofs.Bools.{passed, failed}
+use Rattle.rules.proofs.Judging.{found, short-one}
 use Rattle.rules.specs.Rules.{exitRule}
+use Rattle.rules.specs.Rule.{ruling}
+use Rattle.ground.proofs.Chain.{stop, go}
+use mathlib.Core.Path.{sym, ap, _∙_}
 use borrow.Author.Needs.{needs}
 use Rattle.rules.proofs.exit_rule.Statement.{statement}
 use Rattle.rules.proofs.exit_rule.Tie as tie
 
-variable-at-requires : tie.Need-variable-at-requires
-variable-at-requires c κs = search needs
-
-variable-at-requires-2 : tie.Need-variable-at-requires-2
-variable-at-requires-2 c κs = search needs
-
-exit-moves-requires : tie.Need-exit-moves-requires
-exit-moves-requires c κs = search needs
+exit-asks-requires : tie.Need-exit-asks-requires
+exit-asks-requires c κs = search needs
 
 returns : tie.Need-returns
-unfolding exitRule
-returns c = rw (← c .before .before .before .variable-at .ensures, ← c .before .before .variable-at2 .ensures, failed (c .before .exit-moves .ensures) (c .if1 .taken))
+unfolding ruling
+returns c = stop _ _ (c .before .exit-asks .ensures) (c .if1 .taken)
 
-rest-fits-but-requires : tie.Need-rest-fits-but-requires
-rest-fits-but-requires c κs = search needs
+left-edge-requires : tie.Need-left-edge-requires
+left-edge-requires c κs = search needs
 
 returns-2 : tie.Need-returns-2
-unfolding exitRule
-returns-2 c = rw (← c .before .before .before .before .variable-at .ensures, ← c .before .before .before .variable-at2 .ensures, passed (c .before .before .exit-moves .ensures) (c .before .if1 .left)) (c .rest-fits-but .ensures)
+unfolding ruling exitRule
+returns-2 c = go _ (c .before .before .exit-asks .ensures) (c .before .if1 .left) (ap found (c .left-edge .ensures ∙ sym (short-one _ _ _)))
 
 pub exit-rule-spec : {M : Type 1} → statement M
-exit-rule-spec =
-    tie.close
-    (tie.spec
-    variable-at-requires
-    variable-at-requires-2
-    exit-moves-requires
-    returns
-    rest-fits-but-requires
-    returns-2)
+exit-rule-spec = tie.close (tie.spec exit-asks-requires returns left-edge-requires returns-2)

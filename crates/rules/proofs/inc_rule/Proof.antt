@@ -1,45 +1,25 @@
-use Rattle.ground.proofs.Bools.{passed, failed}
+use Rattle.rules.proofs.Judging.{found, short-one}
 use Rattle.rules.specs.Rules.{incRule}
+use Rattle.rules.specs.Rule.{ruling}
+use Rattle.ground.proofs.Chain.{stop, go}
+use mathlib.Core.Path.{sym, ap, _∙_}
 use borrow.Author.Needs.{needs}
 use Rattle.rules.proofs.inc_rule.Statement.{statement}
 use Rattle.rules.proofs.inc_rule.Tie as tie
 
-stack-at-requires : tie.Need-stack-at-requires
-stack-at-requires c κs = search needs
-
-is-int-requires : tie.Need-is-int-requires
-is-int-requires c κs = search needs
+inc-asks-requires : tie.Need-inc-asks-requires
+inc-asks-requires c κs = search needs
 
 returns : tie.Need-returns
-unfolding incRule
-returns c = rw (← c .before .before .stack-at .ensures, failed (c .before .is-int .ensures) (c .if1 .taken))
+unfolding ruling
+returns c = stop _ _ (c .before .inc-asks .ensures) (c .if1 .taken)
 
-stack-at-requires-2 : tie.Need-stack-at-requires-2
-stack-at-requires-2 c κs = search needs
-
-int-fits-requires : tie.Need-int-fits-requires
-int-fits-requires c κs = search needs
+counted-edge-requires : tie.Need-counted-edge-requires
+counted-edge-requires c κs = search needs
 
 returns-2 : tie.Need-returns-2
-unfolding incRule
-returns-2 c = rw (← c .before .before .before .before .before .stack-at .ensures, ← c .before .before .stack-at2 .ensures, passed (c .before .before .before .before .is-int .ensures) (c .before .before .before .if1 .left), failed (c .before .int-fits .ensures) (c .if2 .taken))
-
-rest-fits-requires : tie.Need-rest-fits-requires
-rest-fits-requires c κs = search needs
-
-returns-3 : tie.Need-returns-3
-unfolding incRule
-returns-3 c = rw (← c .before .before .before .before .before .before .stack-at .ensures, ← c .before .before .before .stack-at2 .ensures, passed (c .before .before .before .before .before .is-int .ensures) (c .before .before .before .before .if1 .left), passed (c .before .before .int-fits .ensures) (c .before .if2 .left)) (c .rest-fits .ensures)
+unfolding ruling incRule
+returns-2 c = go _ (c .before .before .inc-asks .ensures) (c .before .if1 .left) (ap found (c .counted-edge .ensures ∙ sym (short-one _ _ _)))
 
 pub inc-rule-spec : {M : Type 1} → statement M
-inc-rule-spec =
-    tie.close
-    (tie.spec
-    stack-at-requires
-    is-int-requires
-    returns
-    stack-at-requires-2
-    int-fits-requires
-    returns-2
-    rest-fits-requires
-    returns-3)
+inc-rule-spec = tie.close (tie.spec inc-asks-requires returns counted-edge-requires returns-2)

@@ -1,41 +1,48 @@
-use Rattle.ground.proofs.Bools.{passed, failed}
+use Rattle.rules.proofs.Judging.{ruling-more}
 use Rattle.rules.specs.Rules.{newRule}
+use mathlib.Core.Path.{sym, _∙_}
 use borrow.Author.Needs.{needs}
 use Rattle.rules.proofs.new_rule.Statement.{statement}
 use Rattle.rules.proofs.new_rule.Tie as tie
 
-stack-at-requires : tie.Need-stack-at-requires
-stack-at-requires c κs = search needs
+throw-asks-requires : tie.Need-throw-asks-requires
+throw-asks-requires c κs = search needs
 
-entry-fits-requires : tie.Need-entry-fits-requires
-entry-fits-requires c κs = search needs
+depth-of-requires : tie.Need-depth-of-requires
+depth-of-requires c κs = search needs
+
+add-judged : tie.Need-add-judged
+add-judged c = search needs
+
+depth-of-requires-2 : tie.Need-depth-of-requires-2
+depth-of-requires-2 c κs = search needs
+
+made-edge-requires : tie.Need-made-edge-requires
+made-edge-requires c κs = search needs
+
+thrown-short-requires : tie.Need-thrown-short-requires
+thrown-short-requires c κs = search needs
+
+then-short-requires : tie.Need-then-short-requires
+then-short-requires c κs = search needs
+
+judged-requires : tie.Need-judged-requires
+judged-requires c κs = search needs
 
 returns : tie.Need-returns
 unfolding newRule
-returns c = rw (← c .before .before .stack-at .ensures, failed (c .before .entry-fits .ensures) (c .if1 .taken))
-
-rest-fits-requires : tie.Need-rest-fits-requires
-rest-fits-requires c κs = search needs
-
-returns-2 : tie.Need-returns-2
-unfolding newRule
-returns-2 c = rw (← c .before .before .before .before .stack-at .ensures, passed (c .before .before .before .entry-fits .ensures) (c .before .before .if1 .left), failed (c .before .rest-fits .ensures) (c .if2 .taken))
-
-throw-rule-requires : tie.Need-throw-rule-requires
-throw-rule-requires c κs = search needs
-
-returns-3 : tie.Need-returns-3
-unfolding newRule
-returns-3 c = rw (← c .before .before .before .before .before .stack-at .ensures, passed (c .before .before .before .before .entry-fits .ensures) (c .before .before .before .if1 .left), passed (c .before .before .rest-fits .ensures) (c .before .if2 .left)) (c .throw-rule .ensures)
+returns c = (rw (c .before .before .before .before .before .before .throw-asks .ensures, c .before .before .before .before .before .depth-of .ensures .0, c .before .before .before .before .depth-of2 .ensures .0, c .before .then-short .ensures, c .before .before .before .made-edge .ensures, c .before .before .thrown-short .ensures) at (c .judged .ensures)) ∙ sym (ruling-more _ _ _ _)
 
 pub new-rule-spec : {M : Type 1} → statement M
 new-rule-spec =
     tie.close
     (tie.spec
-    stack-at-requires
-    entry-fits-requires
-    returns
-    rest-fits-requires
-    returns-2
-    throw-rule-requires
-    returns-3)
+    throw-asks-requires
+    depth-of-requires
+    add-judged
+    depth-of-requires-2
+    made-edge-requires
+    thrown-short-requires
+    then-short-requires
+    judged-requires
+    returns)

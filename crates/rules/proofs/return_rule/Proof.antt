@@ -1,5 +1,6 @@
-use Rattle.ground.proofs.Bools.{passed, failed}
+use Rattle.rules.proofs.Judging.{ruling-none}
 use Rattle.rules.specs.Rules.{returnRule}
+use mathlib.Core.Path.{sym, _∙_}
 use borrow.Author.Needs.{needs}
 use Rattle.rules.proofs.return_rule.Statement.{statement}
 use Rattle.rules.proofs.return_rule.Tie as tie
@@ -7,16 +8,16 @@ use Rattle.rules.proofs.return_rule.Tie as tie
 stack-goes-requires : tie.Need-stack-goes-requires
 stack-goes-requires c κs = search needs
 
-returns : tie.Need-returns
-unfolding returnRule
-returns c = rw (failed (c .before .stack-goes .ensures) (c .if1 .taken))
-
 vars-go-requires : tie.Need-vars-go-requires
 vars-go-requires c κs = search needs
 
-returns-2 : tie.Need-returns-2
+judged-requires : tie.Need-judged-requires
+judged-requires c κs = search needs
+
+returns : tie.Need-returns
 unfolding returnRule
-returns-2 c = rw (passed (c .before .before .stack-goes .ensures) (c .before .if1 .left)) (c .vars-go .ensures)
+returns c = (rw (c .before .before .stack-goes .ensures, c .before .vars-go .ensures) at (c .judged .ensures)) ∙ sym (ruling-none _ _)
 
 pub return-rule-spec : {M : Type 1} → statement M
-return-rule-spec = tie.close (tie.spec stack-goes-requires returns vars-go-requires returns-2)
+return-rule-spec =
+    tie.close (tie.spec stack-goes-requires vars-go-requires judged-requires returns)

@@ -1,22 +1,23 @@
-use Rattle.ground.proofs.Bools.{passed, failed}
 use Rattle.rules.specs.Rules.{throwRule}
+use Rattle.rules.specs.Rule.{ruling, asked, shortOf}
+use mathlib.Core.Path.{sym, _∙_}
 use borrow.Author.Needs.{needs}
 use Rattle.rules.proofs.throw_rule.Statement.{statement}
 use Rattle.rules.proofs.throw_rule.Tie as tie
 
-stack-goes-requires : tie.Need-stack-goes-requires
-stack-goes-requires c κs = search needs
+throw-asks-requires : tie.Need-throw-asks-requires
+throw-asks-requires c κs = search needs
+
+thrown-short-requires : tie.Need-thrown-short-requires
+thrown-short-requires c κs = search needs
+
+judged-requires : tie.Need-judged-requires
+judged-requires c κs = search needs
 
 returns : tie.Need-returns
-unfolding throwRule
-returns c = rw (failed (c .before .stack-goes .ensures) (c .if1 .taken))
-
-throws-requires : tie.Need-throws-requires
-throws-requires c κs = search needs
-
-returns-2 : tie.Need-returns-2
-unfolding throwRule
-returns-2 c = rw (passed (c .before .before .stack-goes .ensures) (c .before .if1 .left)) (c .throws .ensures)
+unfolding throwRule ruling asked shortOf
+returns c = (rw (c .before .before .throw-asks .ensures, c .before .thrown-short .ensures) at (c .judged .ensures))
 
 pub throw-rule-spec : {M : Type 1} → statement M
-throw-rule-spec = tie.close (tie.spec stack-goes-requires returns throws-requires returns-2)
+throw-rule-spec =
+    tie.close (tie.spec throw-asks-requires thrown-short-requires judged-requires returns)

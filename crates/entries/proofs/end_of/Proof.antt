@@ -1,0 +1,26 @@
+use Rattle.entries.specs.Entries.{entryFrom}
+use Rattle.entries.proofs.Words.{word-end}
+use Rattle.entries.proofs.Types.{no-end}
+use mathlib.Core.Path.{sym, _∙_}
+use borrow.Author.Needs.{needs}
+use Rattle.entries.proofs.end_of.Statement.{statement}
+use Rattle.entries.proofs.end_of.Tie as tie
+
+is-reference-requires : tie.Need-is-reference-requires
+is-reference-requires c κs = search needs
+
+end-in-requires : tie.Need-end-in-requires
+end-in-requires c κs = search needs
+
+cast-result : tie.Need-cast-result
+cast-result c = search needs
+
+returns : tie.Need-returns
+returns c = (c .end-in .ensures ∙ word-end _ _ (sym (c .before .before .is-reference .ensures) ∙ c .before .if1 .taken), search needs)
+
+returns-2 : tie.Need-returns-2
+returns-2 c = (no-end (entryFrom (c .before .before .args .n) (c .before .before .args .w)) (sym (c .before .is-reference .ensures) ∙ c .if1 .left), search needs)
+
+pub end-of-spec : {M : Type 1} → statement M
+end-of-spec =
+    tie.close (tie.spec is-reference-requires end-in-requires cast-result returns returns-2)

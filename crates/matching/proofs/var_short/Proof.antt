@@ -1,0 +1,27 @@
+use Rattle.entries.proofs.Words.{same-word}
+use Rattle.rows.specs.Rows.{variableAt}
+use borrow.Author.Needs.{needs}
+use Rattle.matching.proofs.var_short.Statement.{statement}
+use Rattle.matching.proofs.var_short.Tie as tie
+
+variable-word-requires : tie.Need-variable-word-requires
+variable-word-requires c κs = search needs
+
+variable-word-requires-2 : tie.Need-variable-word-requires-2
+variable-word-requires-2 c κs = search needs
+
+returns : tie.Need-returns
+unfolding variableAt
+returns c = rw (← c .before .before .variable-word .ensures, ← c .before .variable-word2 .ensures) (same-word _ _ _ (c .if1 .taken))
+
+compare-requires : tie.Need-compare-requires
+compare-requires c κs = search needs
+
+returns-2 : tie.Need-returns-2
+unfolding variableAt
+returns-2 c = rw (← c .before .before .before .variable-word .ensures, ← c .before .before .variable-word2 .ensures) (c .compare .ensures)
+
+pub var-short-spec : {M : Type 1} → statement M
+var-short-spec =
+    tie.close
+    (tie.spec variable-word-requires variable-word-requires-2 returns compare-requires returns-2)

@@ -1,0 +1,48 @@
+-- A rule as it is written: what it asks, and its edges. From that one writing come "the rule holds" and its why (document 02, Q-1).
+use mathlib.Core.List.{List, [], _∷_}
+use mathlib.Core.Bool.{Bool, true, false, cond, _&&_}
+use Prim.Native.Nat.{ℕ}
+use lib.Dec.{eqb}
+use Rattle.ground.specs.Chain.{refuse}
+use Rattle.matching.specs.Matching.{Edge, meets, thenShort, edgeShort}
+use Rattle.rules.specs.declared.Ruling.{Ruling}
+
+-- what is asked of row l, and the edges: row l+1 before another row
+pub record Rule : Type 0 where
+  pub asks : Bool
+  pub edges : List Edge
+
+abbrev pub rule : Bool → List Edge → Rule
+rule a es = record { asks = a; edges = es }
+
+-- depths must come out exact along every edge
+abbrev pub allMeet : List Edge → Bool
+allMeet [] = true
+allMeet (e ∷ es) = meets e && allMeet es
+
+-- a depth, the kind of an entry named in row l, or a "may go"
+unfoldable pub asked : Rule → Bool
+asked r = r .asks && allMeet (r .edges)
+
+-- the first comparison that isn't 0, and 0 where there is none
+abbrev pub shortAlong : ℕ → List Edge → ℕ
+shortAlong vars [] = 0
+shortAlong vars (e ∷ es) = thenShort (edgeShort vars e) (shortAlong vars es)
+
+unfoldable pub shortOf : ℕ → Rule → ℕ
+shortOf vars r = shortAlong vars (r .edges)
+
+-- the rule holds
+unfoldable pub holds : ℕ → Rule → Bool
+holds vars r = asked r && eqb (shortOf vars r) 0
+
+-- why it does not: 0 where something asked fails, otherwise the number of the first entry that fails
+unfoldable pub why : ℕ → Rule → ℕ
+why vars r = cond (asked r) (shortOf vars r) 0
+
+-- both at once, as the code finds them
+abbrev pub unasked : Ruling
+unasked = record { asked = false; short = 0 }
+
+unfoldable pub ruling : ℕ → Rule → Ruling
+ruling vars r = refuse (asked r) unasked (record { asked = true; short = shortOf vars r })

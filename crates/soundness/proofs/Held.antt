@@ -1,0 +1,74 @@
+-- What a rule that holds says: all that it asks, and that along each edge every offer fits what is wanted.
+use mathlib.Core.List.{List, [], _∷_}
+use mathlib.Core.Path.{_≡_, refl}
+use mathlib.Core.Bool.{Bool, true, false, _&&_}
+use Prim.Native.Nat.{ℕ, _≤_, _<_}
+use native.Mathlib.Omega.{arith}
+use lib.Dec.{leb, eqb}
+use borrow.Author.Tests.{leb-true, eqb-true}
+use Rattle.ground.specs.Chain.{refuse}
+use Rattle.ground.proofs.Bools.{and-fst, and-snd}
+use Rattle.ground.proofs.Chain.{scan-each}
+use Rattle.entries.specs.Entries.{Entry}
+use Rattle.entries.specs.Entries.{dipOf, endOf}
+use Rattle.entries.specs.Fits.{Want, compare}
+use Rattle.matching.specs.Matching.{Edge, meets, isShort, firstShort, variableShort, entryShort, edgeShort}
+use Rattle.matching.proofs.Scans.{not-short, then-zero}
+use Rattle.rules.specs.Rule.{Rule, allMeet, asked, shortAlong, shortOf, holds}
+
+-- ---- one comparison
+pub record Meets (x : Entry) (w : Want) : Type 0 where
+  pub kind : w .kind x ≡ true
+  pub dip : w .dip ≤ dipOf x
+  pub end : w .end ≤ endOf x
+
+refuse-zero : (ok : Bool) (n r : ℕ) → 0 < n → refuse ok n r ≡ 0 → (ok ≡ true) × (r ≡ 0)
+unfolding refuse
+refuse-zero true n r l h = (refl, h)
+refuse-zero false n r l h = absurd (omega arith)
+
+pub compared : (x : Entry) (w : Want) → compare x w ≡ 0 → Meets x w
+unfolding compare
+compared x w h =
+    let a = refuse-zero (w .kind x) 1 _ (omega arith) h in
+    let b = refuse-zero (leb (w .dip) (dipOf x)) 2 _ (omega arith) (a .1) in
+    let c = refuse-zero (leb (w .end) (endOf x)) 3 _ (omega arith) (b .1) in
+    record { kind = a .0; dip = leb-true _ _ (b .0); end = leb-true _ _ (c .0) }
+
+-- ---- an edge
+pub record Fits (vars : ℕ) (e : Edge) : Type 0 where
+  pub depths : e .offered .depth ≡ e .wanted .depth
+  pub variables : (i : ℕ) → i < vars → Meets (e .offered .variable i) (e .wanted .variable i)
+  pub entries : (j : ℕ) → j < e .offered .depth → Meets (e .offered .stack j) (e .wanted .stack j)
+
+first-each : (n : ℕ) (f : ℕ → ℕ) → firstShort n f ≡ 0 → (i : ℕ) → i < n → f i ≡ 0
+first-each n f h i l = not-short (f i) (scan-each isShort 0 refl f n (rw h) i l)
+
+fits-edge : (vars : ℕ) (e : Edge) → meets e ≡ true → edgeShort vars e ≡ 0 → Fits vars e
+unfolding edgeShort
+fits-edge vars e m h =
+    let z = then-zero (firstShort vars (variableShort e)) (firstShort (e .offered .depth) (entryShort e)) h in
+    record {
+      depths = eqb-true _ _ m;
+      variables = λ i l. compared _ _ (first-each vars (variableShort e) (z .0) i l);
+      entries = λ j l. compared _ _ (first-each (e .offered .depth) (entryShort e) (z .1) j l);
+    }
+
+-- ---- a rule
+abbrev pub AllFit : ℕ → List Edge → Type 0
+AllFit vars [] = Unit
+AllFit vars (e ∷ es) = Fits vars e × AllFit vars es
+
+all-fit : (vars : ℕ) (es : List Edge) → allMeet es ≡ true → shortAlong vars es ≡ 0 → AllFit vars es
+all-fit vars [] m h = tt
+all-fit vars (e ∷ es) m h =
+    let z = then-zero (edgeShort vars e) (shortAlong vars es) h in
+    (fits-edge vars e (and-fst (meets e) (allMeet es) m) (z .0), all-fit vars es (and-snd (meets e) (allMeet es) m) (z .1))
+
+pub held : (vars : ℕ) (r : Rule) → holds vars r ≡ true → (r .asks ≡ true) × AllFit vars (r .edges)
+unfolding holds asked shortOf
+held vars r h =
+    let a : (r .asks && allMeet (r .edges)) ≡ true = and-fst (r .asks && allMeet (r .edges)) (eqb (shortAlong vars (r .edges)) 0) h in (
+      and-fst (r .asks) (allMeet (r .edges)) a,
+      all-fit vars (r .edges) (and-snd (r .asks) (allMeet (r .edges)) a) (eqb-true _ _ (and-snd (r .asks && allMeet (r .edges)) (eqb (shortAlong vars (r .edges)) 0) h)),
+    )
