@@ -2,6 +2,7 @@
 
 use crate::entries::Raw;
 use crate::instructions::{ends_path, Bounds};
+use std::fmt::{self, Display, Formatter};
 
 pub use crate::instructions::{Addr, Instr, Var};
 
@@ -13,12 +14,14 @@ pub const MAGIC: [u8; 2] = [0x4C, 0x4B];
 /// The argument descriptor of Int; any other is a class number.
 pub const INT: u8 = 0xFF;
 
-/// What the verifier says: number, and the class and address it names.
+/// What the verifier says: number, the class and address it names, and for
+/// verdict 9 why the rule fails there; 0 with every other.
 #[derive(Clone, Copy, Debug, PartialEq, Eq)]
 pub struct Verdict {
     pub number: u8,
     pub class: u8,
     pub address: u16,
+    pub why: u8,
 }
 
 impl Verdict {
@@ -27,6 +30,28 @@ impl Verdict {
             number,
             class,
             address,
+            why: 0,
+        }
+    }
+
+    pub const fn because(self, why: u8) -> Verdict {
+        Verdict { why, ..self }
+    }
+}
+
+/// The program's line.
+impl Display for Verdict {
+    fn fmt(&self, to: &mut Formatter) -> fmt::Result {
+        let Verdict {
+            number,
+            class,
+            address,
+            why,
+        } = self;
+        match number {
+            0 => write!(to, "accepted classes {class}"),
+            9 => write!(to, "refused 9 class {class} address {address} why {why}"),
+            _ => write!(to, "refused {number} class {class} address {address}"),
         }
     }
 }

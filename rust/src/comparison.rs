@@ -3,6 +3,7 @@
 pub mod runs;
 pub mod traces;
 pub mod verdicts;
+pub mod whys;
 
 use crate::bundle::Bundle;
 use crate::machine::{answer, step_in, State};

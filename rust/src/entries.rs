@@ -1,4 +1,4 @@
-//! The four-byte entries of a row, and when one fits another.
+//! The four-byte entries of a row, and how one compares with another.
 
 use crate::slips::Slips;
 
@@ -13,6 +13,22 @@ pub const END_BIAS: i16 = 64;
 
 /// Dips are 0..63 and ends -63..63.
 pub const MAX_WEIGHT: i16 = 63;
+
+/// Why a rule fails, by the number that verdict 9 carries.
+#[derive(Clone, Copy, Debug, PartialEq, Eq)]
+pub enum Why {
+    /// A depth, the kind of an entry named in row l, or a "may go".
+    Asked = 0,
+    /// Two entries compared: kind or class differs, never against Top;
+    Kind = 1,
+    /// else the dip is too small;
+    Dip = 2,
+    /// else the end is.
+    End = 3,
+}
+
+/// What a comparison, or a whole rule, comes to: it holds when nothing fails.
+pub type Outcome = Result<(), Why>;
 
 /// The type of one variable or one stack place.
 #[derive(Clone, Copy, Debug, PartialEq, Eq)]
@@ -38,13 +54,29 @@ impl Pair {
     }
 
     /// d >= d' and e >= e'.
-    pub fn covers(self, other: Pair) -> bool {
-        self.dip >= other.dip && self.end >= other.end
+    pub fn covers(self, other: Pair) -> Outcome {
+        if self.dip < other.dip {
+            Err(Why::Dip)
+        } else if self.end < other.end {
+            Err(Why::End)
+        } else {
+            Ok(())
+        }
     }
 
     /// The pair that both together need.
     pub fn plus(self, other: Pair) -> Pair {
         Pair::new(self.dip + other.dip, self.end + other.end)
+    }
+
+    /// What is left after the lock is taken once.
+    pub fn entered(self) -> Pair {
+        Pair::new(self.dip + 1, self.end - 1)
+    }
+
+    /// What is left after the lock is given back once; a dip of -1 covers none.
+    pub fn exited(self) -> Pair {
+        Pair::new(self.dip - 1, self.end + 1)
     }
 }
 
@@ -95,20 +127,21 @@ impl Entry {
         }
     }
 
-    /// The rule "Fits".
-    pub fn fits(self, next: Entry) -> bool {
+    /// The rule "Fits", and what is short where it fails.
+    pub fn compare(self, next: Entry) -> Outcome {
         match (self, next) {
-            (Entry::Int, Entry::Int | Entry::Top) | (Entry::Top, Entry::Top) => true,
-            (
-                Entry::Ref { class, pair },
-                Entry::Ref {
-                    class: next_class,
-                    pair: next_pair,
-                },
-            ) => class == next_class && pair.covers(next_pair),
-            (Entry::Ref { pair, .. }, Entry::Top) => pair.end >= 0,
-            _ => false,
+            (Entry::Int | Entry::Top, Entry::Top) | (Entry::Int, Entry::Int) => Ok(()),
+            (Entry::Ref { pair, .. }, Entry::Top) if pair.end < 0 => Err(Why::End),
+            (Entry::Ref { .. }, Entry::Top) => Ok(()),
+            (Entry::Ref { class, pair }, Entry::Ref { .. }) => {
+                pair.covers(next.weight_after(class)?)
+            }
+            _ => Err(Why::Kind),
         }
+    }
+
+    pub fn fits(self, next: Entry) -> bool {
+        self.compare(next).is_ok()
     }
 
     /// The rule "May go".
@@ -121,24 +154,26 @@ impl Entry {
 
     /// What this entry weighs as the next one of a reference to `class`:
     /// its pair, or (0,0) as Top; anything else can't follow.
-    pub fn weight_after(self, class: u8) -> Option<Pair> {
+    pub fn weight_after(self, class: u8) -> Result<Pair, Why> {
         match self {
-            Entry::Top => Some(Pair::ZERO),
-            Entry::Ref { class: own, pair } if own == class => Some(pair),
-            _ => None,
+            Entry::Top => Ok(Pair::ZERO),
+            Entry::Ref { class: own, pair } if own == class => Ok(pair),
+            _ => Err(Why::Kind),
         }
     }
 }
 
-/// "The rest fits": equally many entries, each fitting its place.
-pub fn all_fit(row: &[Raw], next: &[Raw]) -> bool {
+/// Each entry fits its place; else what is short at the first that doesn't.
+/// Both sides have equally many.
+pub fn all_fit(row: &[Raw], next: &[Raw]) -> Outcome {
     // Fits is reflexive, and most entries stay as they are: equal bytes suffice.
-    row.len() == next.len()
-        && (row == next
-            || row
-                .iter()
-                .zip(next)
-                .all(|(&a, &b)| a == b || Entry::read(a).fits(Entry::read(b))))
+    if row == next {
+        return Ok(());
+    }
+    row.iter().zip(next).try_for_each(|(&a, &b)| match a == b {
+        true => Ok(()),
+        false => Entry::read(a).compare(Entry::read(b)),
+    })
 }
 
 /// Every entry may go.

@@ -2,7 +2,9 @@
 
 pub mod damage;
 pub mod edges;
+mod faults;
 pub mod flow;
+mod probes;
 pub mod random;
 mod settle;
 pub mod sized;
@@ -27,6 +29,10 @@ pub enum Family {
     Typed,
     /// Well-typed methods with one thing broken.
     TypedDamaged,
+    /// Well-typed methods with one rule broken, at times in several ways.
+    Faulty,
+    /// One instruction between rows of its own making, mostly broken.
+    Probe,
     /// Overlaps, odd offsets, limits at their edges.
     Edge,
     /// What only a slipped verifier accepts.
@@ -35,13 +41,15 @@ pub enum Family {
 
 impl Family {
     /// How many of every hundred bundles come from each family.
-    const SHARES: [(Family, usize); 7] = [
-        (Family::Bytes, 8),
-        (Family::Structured, 8),
+    const SHARES: [(Family, usize); 9] = [
+        (Family::Bytes, 7),
+        (Family::Structured, 6),
         (Family::StructuredDamaged, 6),
-        (Family::Typed, 28),
-        (Family::TypedDamaged, 34),
-        (Family::Edge, 10),
+        (Family::Typed, 25),
+        (Family::TypedDamaged, 20),
+        (Family::Faulty, 8),
+        (Family::Probe, 14),
+        (Family::Edge, 8),
         (Family::Tempting, 6),
     ];
 
@@ -70,6 +78,12 @@ impl Family {
                 let methods = typed::well_typed_methods(rng, None);
                 damage::damage(rng, lay_out(&methods))
             }
+            Family::Faulty => {
+                let mut methods = typed::well_typed_methods(rng, None);
+                faults::break_some_rule(rng, &mut methods);
+                lay_out(&methods)
+            }
+            Family::Probe => probes::probe(rng),
             Family::Edge => edges::edge(rng),
             Family::Tempting => {
                 let slip = rng.pick(&Slip::VERIFIER);

@@ -96,6 +96,26 @@ pub fn ends_path(raw: Raw) -> bool {
 }
 
 impl Instr {
+    /// By opcode from 1.
+    pub const NAMES: [&'static str; 12] = [
+        "inc",
+        "pop",
+        "push0",
+        "load",
+        "store",
+        "if",
+        "monitorenter",
+        "monitorexit",
+        "new",
+        "start",
+        "athrow",
+        "return",
+    ];
+
+    pub fn opcode(self) -> u8 {
+        self.bytes()[0]
+    }
+
     /// Reads four bytes that keep to the table.
     pub fn read(raw: Raw) -> Instr {
         let [opcode, operand, high, low] = raw;

@@ -1,8 +1,8 @@
 //! An independent reference of the bundle verifier and its machine.
 //!
-//! Written from document 01 ("Precise rules and scope of the build") and the
-//! readings that settle it, so that it can be held against the proved
-//! implementation without sharing its mistakes.
+//! Written from document 01 ("Precise rules and scope of the build"), the
+//! requests of document 02 and the readings that settle them, so that it can
+//! be held against the proved implementation without sharing its mistakes.
 
 pub mod builder;
 pub mod bundle;

@@ -12,8 +12,9 @@ extern "C" {
 pub fn verdict(bundle: &[u8]) -> Verdict {
     // SAFETY: the call reads this many bytes from there, and keeps nothing.
     let packed = unsafe { hveitmar_verdict(bundle.as_ptr(), bundle.len()) };
-    assert!(packed >> 32 == 0, "{packed:x} is no verdict");
-    Verdict::new(packed as u8, (packed >> 8) as u8, (packed >> 16) as u16)
+    let why = packed >> 32;
+    assert!(why <= 3, "{packed:x} is no verdict");
+    Verdict::new(packed as u8, (packed >> 8) as u8, (packed >> 16) as u16).because(why as u8)
 }
 
 /// All answers of the proved machine on a schedule, mixed into one number;

@@ -1,10 +1,12 @@
 //! The rules at each address: row 1 (verdict 10) and the instructions (9).
 //!
-//! Rows here are well formed already. Depths come out exact because
-//! `all_fit` wants equally many entries on both sides.
+//! Rows here are well formed already. A rule first asks for all that gives
+//! why 0: depths, kinds named in row l, what may go. Then it compares entries
+//! in the order that decides which misfit is told: row l+1 before another
+//! row, in each the variables ascending, then the stack from the top.
 
 use crate::bundle::{Addr, Bundle, Class, Instr, Row, Var, INT};
-use crate::entries::{all_fit, all_may_go, Entry, Pair};
+use crate::entries::{all_fit, all_may_go, Entry, Outcome, Pair, Raw, Why, MAX_WEIGHT};
 use crate::slips::Slips;
 
 /// Row 1: depth 0, arguments fit their variables, the others are exactly Top.
@@ -28,143 +30,184 @@ fn argument(descriptor: u8) -> Entry {
     }
 }
 
-/// Whether the rule of the instruction at `address` holds.
-pub fn holds(bundle: &Bundle, class: &Class, address: Addr, slips: &Slips) -> bool {
+/// The rule of the instruction at `address`.
+pub fn check(bundle: &Bundle, class: &Class, address: Addr, slips: &Slips) -> Outcome {
     let row = class.row(address);
     // Only athrow and return may stand at address k; they look at no next row.
     let next = || class.row(Addr(address.0 + 1));
+    let at = |handler: Option<Addr>| handler.map(|address| class.row(address));
     match class.instruction(address) {
         Instr::Inc => inc(row, next()),
         Instr::Pop => pop(row, next(), slips),
-        Instr::Push0 => pushes(Entry::Int, row, next()),
+        Instr::Push0 => push0(row, next()),
         Instr::Load(v) => load(row, next(), v, slips),
         Instr::Store(v) => store(row, next(), v, slips),
         Instr::If(target) => branch(row, next(), class.row(target), slips),
-        Instr::Enter(v) => enter(row, next(), v),
-        Instr::Exit(v) => exit(row, next(), v, slips),
-        Instr::New(c, handler) => {
-            pushes(Entry::fresh(c), row, next())
-                && all_may_go(row.stack, slips)
-                && (handled(class, row, handler, slips)
-                    || slips.failed_new_skips_variables && handler.is_none())
-        }
+        Instr::Enter(v) => lock(row, next(), v, Pair::entered),
+        Instr::Exit(v) => lock(row, next(), v, |pair| exited(pair, slips)),
+        Instr::New(c, handler) => new(row, next(), at(handler), c, slips),
         Instr::Start(c) => start(row, next(), c, bundle.class(c).arguments, slips),
-        Instr::Athrow(handler) => {
-            all_may_go(row.stack, slips) && handled(class, row, handler, slips)
-        }
-        Instr::Return => all_may_go(row.variables, slips) && all_may_go(row.stack, slips),
+        Instr::Athrow(handler) => athrow(row, at(handler), slips),
+        Instr::Return => ends(row, slips),
     }
 }
 
-fn inc(row: Row, next: Row) -> bool {
-    let (Some((&top, rest)), Some((&new_top, new_rest))) =
-        (row.stack.split_first(), next.stack.split_first())
-    else {
-        return false;
-    };
-    Entry::read(top) == Entry::Int
-        && Entry::Int.fits(Entry::read(new_top))
-        && all_fit(rest, new_rest)
-        && all_fit(row.variables, next.variables)
+fn ask(holds: bool) -> Outcome {
+    match holds {
+        true => Ok(()),
+        false => Err(Why::Asked),
+    }
 }
 
-fn pop(row: Row, next: Row, slips: &Slips) -> bool {
-    row.stack.split_first().is_some_and(|(&top, rest)| {
-        Entry::read(top).may_go(slips)
-            && all_fit(rest, next.stack)
-            && all_fit(row.variables, next.variables)
-    })
+/// The stacks of row l and of a row it goes to: `T` entries are taken, `G`
+/// are given, and the rest stays. Depths come out exact.
+struct Stacks<'a, const T: usize, const G: usize> {
+    taken: [Entry; T],
+    given: [Entry; G],
+    rest: &'a [Raw],
+    next_rest: &'a [Raw],
+}
+
+impl<'a, const T: usize, const G: usize> Stacks<'a, T, G> {
+    fn split(row: Row<'a>, next: Row<'a>) -> Result<Stacks<'a, T, G>, Why> {
+        let (taken, rest) = row.stack.split_first_chunk().ok_or(Why::Asked)?;
+        let (given, next_rest) = next.stack.split_first_chunk().ok_or(Why::Asked)?;
+        ask(rest.len() == next_rest.len())?;
+        Ok(Stacks {
+            taken: taken.map(Entry::read),
+            given: given.map(Entry::read),
+            rest,
+            next_rest,
+        })
+    }
+
+    fn rest_fits(&self) -> Outcome {
+        all_fit(self.rest, self.next_rest)
+    }
+}
+
+fn variables_fit(row: Row, next: Row) -> Outcome {
+    all_fit(row.variables, next.variables)
+}
+
+/// The variables in their order, `v` by a comparison of its own.
+fn variables_fit_but(row: Row, next: Row, v: Var, own: Outcome) -> Outcome {
+    let at = usize::from(v.0);
+    all_fit(&row.variables[..at], &next.variables[..at])?;
+    own?;
+    all_fit(&row.variables[at + 1..], &next.variables[at + 1..])
+}
+
+fn entry_at(row: Row, v: Var) -> Entry {
+    Entry::read(row.variables[usize::from(v.0)])
+}
+
+fn inc(row: Row, next: Row) -> Outcome {
+    let stacks = Stacks::<1, 1>::split(row, next)?;
+    ask(stacks.taken == [Entry::Int])?;
+    variables_fit(row, next)?;
+    Entry::Int.compare(stacks.given[0])?;
+    stacks.rest_fits()
+}
+
+fn pop(row: Row, next: Row, slips: &Slips) -> Outcome {
+    let stacks = Stacks::<1, 0>::split(row, next)?;
+    ask(stacks.taken[0].may_go(slips))?;
+    variables_fit(row, next)?;
+    stacks.rest_fits()
+}
+
+fn push0(row: Row, next: Row) -> Outcome {
+    pushes(Entry::Int, row, next, Stacks::split(row, next)?)
 }
 
 /// `entry` fits the new top, the rest fits: push0, and new that succeeds.
-fn pushes(entry: Entry, row: Row, next: Row) -> bool {
-    next.stack
-        .split_first()
-        .is_some_and(|(&new_top, new_rest)| {
-            entry.fits(Entry::read(new_top))
-                && all_fit(row.stack, new_rest)
-                && all_fit(row.variables, next.variables)
-        })
+fn pushes(entry: Entry, row: Row, next: Row, stacks: Stacks<0, 1>) -> Outcome {
+    variables_fit(row, next)?;
+    entry.compare(stacks.given[0])?;
+    stacks.rest_fits()
 }
 
-fn load(row: Row, next: Row, v: Var, slips: &Slips) -> bool {
-    let Some((&new_top, new_rest)) = next.stack.split_first() else {
-        return false;
-    };
-    let (old, kept) = (entry_at(row, v), entry_at(next, v));
-    shares(old, kept, Entry::read(new_top), slips)
-        && all_fit(row.stack, new_rest)
-        && others_fit(row, next, v)
+fn load(row: Row, next: Row, v: Var, slips: &Slips) -> Outcome {
+    let stacks = Stacks::<0, 1>::split(row, next)?;
+    let (kept, given) = (entry_at(next, v), stacks.given[0]);
+    match entry_at(row, v) {
+        // Both places are compared at once, at v.
+        Entry::Ref { class, pair } => {
+            variables_fit_but(row, next, v, shares(class, pair, kept, given, slips))?;
+        }
+        plain => {
+            variables_fit_but(row, next, v, plain.compare(kept))?;
+            plain.compare(given)?;
+        }
+    }
+    stacks.rest_fits()
 }
 
-/// One entry becomes two: a reference's pair is shared out between them.
-fn shares(old: Entry, kept: Entry, given: Entry, slips: &Slips) -> bool {
-    let Entry::Ref { class, pair } = old else {
-        return old.fits(kept) && old.fits(given);
+/// One reference becomes two: its pair is shared out between them.
+fn shares(class: u8, pair: Pair, kept: Entry, given: Entry, slips: &Slips) -> Outcome {
+    let (kept, given) = (kept.weight_after(class)?, given.weight_after(class)?);
+    if slips.load_copies_pair {
+        pair.covers(kept)?;
+        return pair.covers(given);
+    }
+    pair.covers(kept.plus(given))
+}
+
+fn store(row: Row, next: Row, v: Var, slips: &Slips) -> Outcome {
+    let stacks = Stacks::<1, 0>::split(row, next)?;
+    ask(slips.store_keeps_old || entry_at(row, v).may_go(slips))?;
+    let stored = stacks.taken[0].compare(entry_at(next, v));
+    variables_fit_but(row, next, v, stored)?;
+    stacks.rest_fits()
+}
+
+fn branch(row: Row, next: Row, target: Row, slips: &Slips) -> Outcome {
+    let target = match slips.if_checks_fall_through_only {
+        true => next,
+        false => target,
     };
-    match (kept.weight_after(class), given.weight_after(class)) {
-        (Some(a), Some(b)) if slips.load_copies_pair => pair.covers(a) && pair.covers(b),
-        (Some(a), Some(b)) => pair.covers(a.plus(b)),
-        _ => false,
+    let falls = Stacks::<1, 0>::split(row, next)?;
+    let jumps = Stacks::<1, 0>::split(row, target)?;
+    ask(falls.taken == [Entry::Int])?;
+    variables_fit(row, next)?;
+    falls.rest_fits()?;
+    variables_fit(row, target)?;
+    jumps.rest_fits()
+}
+
+/// monitorenter and monitorexit: a reference, whose `moved` pair is compared
+/// with its class or Top, which weighs (0,0) here.
+fn lock(row: Row, next: Row, v: Var, moved: impl Fn(Pair) -> Pair) -> Outcome {
+    let stacks = Stacks::<0, 0>::split(row, next)?;
+    let Entry::Ref { class, pair } = entry_at(row, v) else {
+        return Err(Why::Asked);
+    };
+    let after = entry_at(next, v).weight_after(class);
+    let own = after.and_then(|weight| moved(pair).covers(weight));
+    variables_fit_but(row, next, v, own)?;
+    stacks.rest_fits()
+}
+
+fn exited(pair: Pair, slips: &Slips) -> Pair {
+    let exited = pair.exited();
+    match slips.exit_ignores_dip {
+        true => Pair::new(MAX_WEIGHT, exited.end),
+        false => exited,
     }
 }
 
-fn store(row: Row, next: Row, v: Var, slips: &Slips) -> bool {
-    row.stack.split_first().is_some_and(|(&top, rest)| {
-        (slips.store_keeps_old || entry_at(row, v).may_go(slips))
-            && Entry::read(top).fits(entry_at(next, v))
-            && all_fit(rest, next.stack)
-            && others_fit(row, next, v)
-    })
-}
-
-fn branch(row: Row, next: Row, target: Row, slips: &Slips) -> bool {
-    row.stack.split_first().is_some_and(|(&top, rest)| {
-        let arm = |to: Row| all_fit(rest, to.stack) && all_fit(row.variables, to.variables);
-        Entry::read(top) == Entry::Int
-            && arm(next)
-            && (slips.if_checks_fall_through_only || arm(target))
-    })
-}
-
-fn enter(row: Row, next: Row, v: Var) -> bool {
-    let step = |old: Pair, new: Pair| old.dip >= new.dip - 1 && old.end > new.end;
-    locks(row, next, v, step)
-}
-
-fn exit(row: Row, next: Row, v: Var, slips: &Slips) -> bool {
-    let step = |old: Pair, new: Pair| {
-        (slips.exit_ignores_dip || old.dip > new.dip) && old.end >= new.end - 1
-    };
-    locks(row, next, v, step)
-}
-
-/// What monitorenter and monitorexit share: a reference, followed by its class
-/// or Top, whose weights stand in the relation `step`.
-fn locks(row: Row, next: Row, v: Var, step: impl Fn(Pair, Pair) -> bool) -> bool {
-    let Entry::Ref { class, pair } = entry_at(row, v) else {
-        return false;
-    };
-    entry_at(next, v)
-        .weight_after(class)
-        .is_some_and(|new| step(pair, new))
-        && all_fit(row.stack, next.stack)
-        && others_fit(row, next, v)
-}
-
-fn start(row: Row, next: Row, class: u8, descriptors: &[u8], slips: &Slips) -> bool {
-    let Some((taken, rest)) = row.stack.split_at_checked(descriptors.len() + 1) else {
-        return false;
-    };
+fn start(row: Row, next: Row, class: u8, descriptors: &[u8], slips: &Slips) -> Outcome {
+    let split = row.stack.split_at_checked(descriptors.len() + 1);
+    let (taken, rest) = split.ok_or(Why::Asked)?;
     // The object stands below the arguments, so its class closes the list.
     let wanted = descriptors.iter().copied().chain([class]);
-    taken
-        .iter()
-        .zip(wanted)
-        .all(|(&raw, d)| matches(Entry::read(raw), d))
-        && all_may_go(taken, slips)
-        && all_fit(rest, next.stack)
-        && all_fit(row.variables, next.variables)
+    let mut pairs = taken.iter().zip(wanted);
+    ask(rest.len() == next.stack.len())?;
+    ask(pairs.all(|(&raw, descriptor)| matches(Entry::read(raw), descriptor)))?;
+    ask(all_may_go(taken, slips))?;
+    variables_fit(row, next)?;
+    all_fit(rest, next.stack)
 }
 
 /// Int for the descriptor FF, else a reference of that class, whatever its pair.
@@ -176,24 +219,37 @@ fn matches(entry: Entry, descriptor: u8) -> bool {
     }
 }
 
-/// The variables of athrow and of a failed new.
-fn handled(class: &Class, row: Row, handler: Option<Addr>, slips: &Slips) -> bool {
+fn new(row: Row, next: Row, handler: Option<Row>, class: u8, slips: &Slips) -> Outcome {
+    let stacks = Stacks::split(row, next)?;
+    let mut thrown = row;
+    if slips.failed_new_skips_variables && handler.is_none() {
+        thrown.variables = &[];
+    }
+    throw_asks(thrown, handler, slips)?;
+    pushes(Entry::fresh(class), row, next, stacks)?;
+    throw_fits(row, handler)
+}
+
+fn athrow(row: Row, handler: Option<Row>, slips: &Slips) -> Outcome {
+    throw_asks(row, handler, slips)?;
+    throw_fits(row, handler)
+}
+
+/// What athrow and a failed new ask: the stack may go, and the handler's row
+/// has depth 0; with none, the variables may go too.
+fn throw_asks(row: Row, handler: Option<Row>, slips: &Slips) -> Outcome {
     match handler {
-        None => all_may_go(row.variables, slips),
-        Some(address) => {
-            let at = class.row(address);
-            at.stack.is_empty() && all_fit(row.variables, at.variables)
-        }
+        Some(at) => ask(at.stack.is_empty() && all_may_go(row.stack, slips)),
+        None => ends(row, slips),
     }
 }
 
-fn entry_at(row: Row, v: Var) -> Entry {
-    Entry::read(row.variables[usize::from(v.0)])
+/// What athrow and a failed new compare.
+fn throw_fits(row: Row, handler: Option<Row>) -> Outcome {
+    handler.map_or(Ok(()), |at| variables_fit(row, at))
 }
 
-/// Every variable but `v` fits.
-fn others_fit(row: Row, next: Row, v: Var) -> bool {
-    let at = usize::from(v.0);
-    all_fit(&row.variables[..at], &next.variables[..at])
-        && all_fit(&row.variables[at + 1..], &next.variables[at + 1..])
+/// The thread ends here: every entry, variables and stack, may go.
+fn ends(row: Row, slips: &Slips) -> Outcome {
+    ask(all_may_go(row.variables, slips) && all_may_go(row.stack, slips))
 }

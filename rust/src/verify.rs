@@ -51,9 +51,8 @@ fn check_rules(bundle: &Bundle, slips: &Slips) -> Result<(), Verdict> {
             return Err(Verdict::new(10, number, 0));
         }
         for address in 1..=class.code_length() {
-            if !rules::holds(bundle, class, Addr(address), slips) {
-                return Err(Verdict::new(9, number, address));
-            }
+            rules::check(bundle, class, Addr(address), slips)
+                .map_err(|why| Verdict::new(9, number, address).because(why as u8))?;
         }
     }
     Ok(())

@@ -36,7 +36,7 @@ fn rule_holds(instr: Instr, row: Row, next: Row) -> bool {
     };
     let bytes = lay_out(&[method]);
     let bundle = Bundle::open_with_code(&bytes).expect("the table is kept");
-    rules::holds(&bundle, bundle.class(0), Addr(1), &Slips::NONE)
+    rules::check(&bundle, bundle.class(0), Addr(1), &Slips::NONE).is_ok()
 }
 
 fn run(bytes: &[u8], state: &State, fails: bool) -> (u8, State) {
@@ -53,10 +53,21 @@ fn a_is_accepted_and_laid_out_as_told() {
     assert_eq!(judge(&bytes), Verdict::new(0, 1, 0));
 }
 
+/// B: (1,-1) goes to (0,0), whose end is too much. C: monitorexit leaves
+/// (0,0) where (1,-1) is wanted.
 #[test]
 fn b_and_c_are_refused_at_5_and_8() {
-    assert_eq!(judge(&case(9, FREE)), Verdict::new(9, 0, 5));
-    assert_eq!(judge(&case(9, HELD)), Verdict::new(9, 0, 8));
+    assert_eq!(judge(&case(9, FREE)), Verdict::new(9, 0, 5).because(3));
+    assert_eq!(judge(&case(9, HELD)), Verdict::new(9, 0, 8).because(2));
+}
+
+#[test]
+fn the_program_s_line() {
+    let line = |bytes: &[u8]| judge(bytes).to_string();
+    assert_eq!(line(&case(8, FREE)), "accepted classes 1");
+    assert_eq!(line(&case(9, FREE)), "refused 9 class 0 address 5 why 3");
+    assert_eq!(line(&case(9, HELD)), "refused 9 class 0 address 8 why 2");
+    assert_eq!(line(&[]), "refused 1 class 0 address 0");
 }
 
 #[test]

@@ -1,6 +1,7 @@
 //! The generated inputs are varied enough to be worth comparing on.
 
 use hveitmar_reference::bundle::Bundle;
+use hveitmar_reference::comparison::whys::Whys;
 use hveitmar_reference::generate::{self, flow, typed};
 use hveitmar_reference::machine::belongs;
 use hveitmar_reference::rng::Rng;
@@ -29,6 +30,20 @@ fn every_verdict_comes_up() {
         "{branching} of {}",
         verdicts[0]
     );
+}
+
+#[test]
+fn every_rule_fails_for_every_reason() {
+    let mut whys = Whys::default();
+    for seed in 0..10_000 {
+        let (_, b) = generate::bundle(seed);
+        whys.add(&b, verify(&b, &Slips::NONE));
+    }
+    for (name, counts) in whys.rows() {
+        let often = counts.iter().flatten().all(|&count| count >= 10);
+        assert!(often, "{name}: {counts:?}");
+    }
+    assert_eq!(whys.impossible(), 0);
 }
 
 #[test]

@@ -21,10 +21,13 @@ fn cases_a_b_c_and_l() {
     method.code[4] = Instr::If(Addr(9));
     assert_eq!(
         proved::verdict(&lay_out(&[method.clone()])),
-        Verdict::new(9, 0, 5)
+        Verdict::new(9, 0, 5).because(3)
     );
     method.rows[8].variables[0] = Entry::reference(0, 1, -1);
-    assert_eq!(proved::verdict(&lay_out(&[method])), Verdict::new(9, 0, 8));
+    assert_eq!(
+        proved::verdict(&lay_out(&[method])),
+        Verdict::new(9, 0, 8).because(2)
+    );
     assert_eq!(proved::verdict(&[]), Verdict::new(1, 0, 0));
 }
 

@@ -4,7 +4,8 @@
 //!
 //! `report [bundles] [first seed]`
 
-use hveitmar_reference::bundle::{Addr, Bundle, Verdict};
+use hveitmar_reference::bundle::Bundle;
+use hveitmar_reference::comparison::whys::Whys;
 use hveitmar_reference::generate::{self, flow};
 use hveitmar_reference::machine::{fresh, step, step_in, State};
 use hveitmar_reference::rng::Rng;
@@ -19,8 +20,7 @@ const STEPS: usize = 250;
 #[derive(Default)]
 struct Figures {
     verdicts: [u64; 11],
-    /// Verdict 9 by the opcode whose rule fails.
-    failing_rules: [u64; 13],
+    whys: Whys,
     branching: u64,
     answers: [u64; 6],
     /// Answers from random states of any bundle.
@@ -49,10 +49,9 @@ impl Figures {
         let verdict = verify(&b, &Slips::NONE);
         self.bytes += b.len();
         self.verdicts[usize::from(verdict.number)] += 1;
-        match verdict.number {
-            0 => self.run_accepted(&b, seed),
-            9 => self.failing_rules[usize::from(opcode(&b, verdict))] += 1,
-            _ => {}
+        self.whys.add(&b, verdict);
+        if verdict.number == 0 {
+            self.run_accepted(&b, seed);
         }
         self.step_anywhere(&b, seed);
     }
@@ -118,7 +117,7 @@ impl Figures {
         for (number, &count) in self.verdicts.iter().enumerate() {
             println!("verdict {number}: {count} ({:.2} %)", share(count));
         }
-        println!("verdict 9 by opcode 1..12: {:?}", &self.failing_rules[1..]);
+        self.whys.print();
         let accepted = self.verdicts[0];
         println!("accepted: {accepted}");
         println!(
@@ -134,12 +133,4 @@ impl Figures {
         println!("highest count: {}", self.highest_count);
         println!("no fault, no count above {COUNT_BOUND}, no ended thread holds anything");
     }
-}
-
-fn opcode(b: &[u8], verdict: Verdict) -> u8 {
-    let bundle = Bundle::open_with_code(b).expect("it draws 9");
-    bundle
-        .class(verdict.class)
-        .instruction(Addr(verdict.address))
-        .bytes()[0]
 }

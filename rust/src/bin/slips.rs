@@ -41,8 +41,7 @@ fn caught(slip: Slip, seed: u64) -> Option<String> {
     }
     let (schedule, (step, fault)) = (0..SCHEDULES).find_map(|s| Some((s, fault(&b, s)?)))?;
     Some(format!(
-        "seed {seed} refused {} class {} address {}, schedule {schedule} step {step} fault {fault}",
-        truth.number, truth.class, truth.address
+        "seed {seed} {truth}, schedule {schedule} step {step} fault {fault}"
     ))
 }
 

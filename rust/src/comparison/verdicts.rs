@@ -1,5 +1,6 @@
-//! Both verifiers on the same bundles: number, class and address.
+//! Both verifiers on the same bundles: number, class, address and why.
 
+use super::whys::Whys;
 use super::Differences;
 use crate::builder::{case_a, lay_out};
 use crate::generate::{self, flow};
@@ -12,6 +13,7 @@ pub struct Verdicts {
     bundles: u64,
     bytes: usize,
     numbers: [u64; 11],
+    whys: Whys,
     /// Accepted, with a branch between taking a lock and giving it back.
     branching: u64,
     pub differences: Differences,
@@ -42,12 +44,14 @@ impl Verdicts {
         let reference = verify(bundle, &Slips::NONE);
         let proved = proved::verdict(bundle);
         if proved != reference {
+            // All four numbers, whatever the verdict: any of them may differ.
             let what = format!("{name}: proved {proved:?}, reference {reference:?}");
             self.differences.add(what, &[bundle]);
         }
         self.bundles += 1;
         self.bytes += bundle.len();
         self.numbers[usize::from(reference.number)] += 1;
+        self.whys.add(bundle, reference);
         if reference.number == 0 && flow::branches_under_lock(bundle) {
             self.branching += 1;
         }
@@ -60,6 +64,7 @@ impl Verdicts {
             let share = 100.0 * *count as f64 / self.bundles.max(1) as f64;
             println!("  verdict {number}: {count} ({share:.2} %)");
         }
+        self.whys.print();
         println!("  accepted: {}", self.numbers[0]);
         println!(
             "  accepted with a branch between lock and release: {}",

@@ -82,7 +82,8 @@ fn descriptor(rng: &mut Rng, classes: usize) -> u8 {
     }
 }
 
-fn first_row(arguments: &[u8], variables: usize) -> Row {
+/// Row 1 of a method with these arguments.
+pub fn first_row(arguments: &[u8], variables: usize) -> Row {
     let mut entries: Vec<Entry> = arguments
         .iter()
         .map(|&d| {

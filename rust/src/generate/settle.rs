@@ -74,7 +74,7 @@ impl Writer<'_> {
         let Entry::Ref { class, .. } = self.now.variables[v] else {
             return;
         };
-        let Some(goal) = want.weight_after(class) else {
+        let Ok(goal) = want.weight_after(class) else {
             return;
         };
         for _ in 0..64 {

@@ -60,7 +60,7 @@ pub fn refused_late(bundle: &[u8]) -> Option<Vec<u8>> {
             owing[at + 3] = (END_BIAS - 1) as u8;
             owing
         })
-        .find(|owing| verdict(owing) == last)
+        .find(|owing| verdict(owing).because(0) == last)
 }
 
 /// The same bundle with an unknown opcode at class 0, address 1 (7).

@@ -4,6 +4,7 @@
 //! athrow with a handler serves as a plain jump: it empties the stack and
 //! goes there.
 
+use super::random;
 use super::writer::{free, Label, Writer};
 use crate::builder::{lay_out, Method};
 use crate::bundle::{INT, MAX_LENGTH};
@@ -36,7 +37,7 @@ pub fn well_typed_methods(rng: &mut Rng, temptation: Option<Slip>) -> Vec<Method
 }
 
 /// The classes' argument descriptors; main takes none.
-fn signatures(rng: &mut Rng) -> Vec<Vec<u8>> {
+pub fn signatures(rng: &mut Rng) -> Vec<Vec<u8>> {
     let count = if rng.chance(1, 12) {
         8
     } else {
@@ -64,14 +65,7 @@ fn method(rng: &mut Rng, signatures: &[Vec<u8>], class: usize, slip: Option<Slip
     };
     loop {
         let variables = (arguments.len() + size(rng)).min(16);
-        let mut first = vec![Entry::Top; variables];
-        for (entry, &descriptor) in first.iter_mut().zip(arguments) {
-            *entry = if descriptor == INT {
-                Entry::Int
-            } else {
-                Entry::fresh(descriptor)
-            };
-        }
+        let first = random::first_row(arguments, variables).variables;
         let stack_limit = size(rng);
         let mut writer = Writer::new(rng, signatures, first, stack_limit, budget);
         writer.temptation = slip;
@@ -145,7 +139,7 @@ impl Writer<'_> {
         (!found.is_empty()).then(|| self.rng.pick(&found))
     }
 
-    fn pick_class(&mut self) -> u8 {
+    pub(super) fn pick_class(&mut self) -> u8 {
         self.rng.below(self.signatures.len()) as u8
     }
 
@@ -264,7 +258,7 @@ impl Writer<'_> {
         )
     }
 
-    fn perhaps_top(&mut self, class: u8, pair: Pair) -> Entry {
+    pub(super) fn perhaps_top(&mut self, class: u8, pair: Pair) -> Entry {
         match pair == Pair::ZERO && self.rng.chance(1, 10) {
             true => Entry::Top,
             false => Entry::Ref { class, pair },

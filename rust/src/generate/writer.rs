@@ -149,19 +149,18 @@ impl<'r> Writer<'r> {
 
     pub fn enter(&mut self, v: usize) {
         self.emit(Instr::Enter(Var(v as u8)));
-        self.shift(v, 1);
+        self.shift(v, Pair::entered);
     }
 
     pub fn exit(&mut self, v: usize) {
         self.emit(Instr::Exit(Var(v as u8)));
-        self.shift(v, -1);
+        self.shift(v, Pair::exited);
     }
 
-    /// The pair after taking (1) or giving back (-1) the lock.
-    fn shift(&mut self, v: usize, by: i16) {
+    fn shift(&mut self, v: usize, moved: fn(Pair) -> Pair) {
         if let Entry::Ref { pair, .. } = &mut self.now.variables[v] {
-            let dip = (pair.dip + by).max(0);
-            *pair = Pair::new(dip, pair.end - by);
+            let Pair { dip, end } = moved(*pair);
+            *pair = Pair::new(dip.max(0), end);
         }
     }
 
