@@ -1,5 +1,5 @@
 -- What the rules share: the row after an instruction, what a row wants, and an edge from the one to the other (document 01, the rules at each address; document 02, Q-1).
-use mathlib.Core.Bool.{Bool, cond, _&&_, not}
+use mathlib.Core.Bool.{Bool, cond, not}
 use Prim.Native.Nat.{ℕ, zero, suc, _+_, _-_}
 use lib.Dec.{eqb}
 use Rattle.ground.specs.Bounded.{allBelow}

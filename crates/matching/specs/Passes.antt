@@ -1,5 +1,5 @@
 -- An edge as the code goes along it: the variables of two rows, then one entry that comes on top, then the rest of the stack. `proofs/Edges` shows that this is the edge's first comparison that isn't 0.
-use mathlib.Core.Bool.{Bool, cond}
+use mathlib.Core.Bool.{cond}
 use Prim.Native.Nat.{ℕ, _+_, _-_}
 use lib.Dec.{eqb}
 use Rattle.entries.specs.Fits.{compare, want}

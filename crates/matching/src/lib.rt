@@ -9,17 +9,17 @@ ghost use Rattle.matching.specs.Passes.{varShort, otherShort, restShort,
 use bundle::Class;
 
 // The depth of the row that begins at p.
-pub fn depth_of(n: u8, k: Class, r: &[u8], p: u32) -> u16
+pub fn depth_of(k: Class, r: &[u8], p: u32) -> u16
     ensures { λ d. ⌜ (d ≡ depthAt (now (r .entry)) p (k .vars)) × (d ≤ 255) ⌝ }
 {
     rows::depth_at(r, p, k.vars, k.limit) as u16
 }
 
 // .. and what is left of it when a entries have gone.
-pub fn depth_left(n: u8, k: Class, r: &[u8], a: u8, p: u32) -> u16
+pub fn depth_left(k: Class, r: &[u8], a: u8, p: u32) -> u16
     ensures { λ d. ⌜ (d ≡ depthAt (now (r .entry)) p (k .vars) - a) × (d ≤ 255) ⌝ }
 {
-    let d = depth_of(n, k, r, p);
+    let d = depth_of(k, r, p);
     if d < a as u16 {
         return 0;
     }
@@ -99,7 +99,7 @@ fn rest_pass(n: u8, k: Class, r: &[u8], a: u8, b: u8, p: u32, q: u32) -> u8
     requires { ⌜ b ≤ 1 ⌝ }
     ensures { λ o. ⌜ o ≡ restPass a b (rowFrom n (now (r .entry)) (k .vars) p) (rowFrom n (now (r .entry)) (k .vars) q) ⌝ }
 {
-    let rest = depth_left(n, k, r, a, p) as u8;
+    let rest = depth_left(k, r, a, p) as u8;
     for j in 0..rest {
         let w = rest_short(n, k, r, a, b, p, q, j);
         if w != 0 {
@@ -121,7 +121,7 @@ fn pass(n: u8, k: Class, r: &[u8], a: u8, b: u8, t: u8, p: u32, q: u32) -> u8
     if t != 0 {
         return t;
     }
-    if depth_left(n, k, r, a, p) == 0 {
+    if depth_left(k, r, a, p) == 0 {
         return 0;
     }
     rest_pass(n, k, r, a, b, p, q)
@@ -138,7 +138,7 @@ fn pass_but(n: u8, k: Class, r: &[u8], v: u8, s: u8, a: u8, b: u8, t: u8, p: u32
     if t != 0 {
         return t;
     }
-    if depth_left(n, k, r, a, p) == 0 {
+    if depth_left(k, r, a, p) == 0 {
         return 0;
     }
     rest_pass(n, k, r, a, b, p, q)

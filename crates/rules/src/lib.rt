@@ -45,10 +45,10 @@ fn then_short(first: u8, second: u8) -> u8
 fn inc_asks(n: u8, k: Class, r: &[u8], p: u32, q: u32) -> bool
     ensures { λ o. ⌜ o ≡ asked (incRule (rowFrom n (now (r .entry)) (k .vars) p) (rowFrom n (now (r .entry)) (k .vars) q)) ⌝ }
 {
-    let d = matching::depth_of(n, k, r, p);
+    let d = matching::depth_of(k, r, p);
     (1 <= d)
         & entries::is_int(n, rows::stack_word(r, p, k.vars, k.limit, 0))
-        & (d == matching::depth_of(n, k, r, q))
+        & (d == matching::depth_of(k, r, q))
 }
 
 fn inc_rule(n: u8, k: Class, r: &[u8], p: u32, q: u32) -> Ruling
@@ -70,7 +70,7 @@ fn pop_asks(n: u8, k: Class, r: &[u8], p: u32, q: u32) -> bool
     ensures { λ o. ⌜ o ≡ asked (popRule (rowFrom n (now (r .entry)) (k .vars) p) (rowFrom n (now (r .entry)) (k .vars) q)) ⌝ }
 {
     entries::may_go(n, rows::stack_word(r, p, k.vars, k.limit, 0))
-        & (matching::depth_of(n, k, r, p) == matching::depth_of(n, k, r, q) + 1)
+        & (matching::depth_of(k, r, p) == matching::depth_of(k, r, q) + 1)
 }
 
 fn pop_rule(n: u8, k: Class, r: &[u8], p: u32, q: u32) -> Ruling
@@ -91,7 +91,7 @@ fn pop_rule(n: u8, k: Class, r: &[u8], p: u32, q: u32) -> Ruling
 fn push0_asks(n: u8, k: Class, r: &[u8], p: u32, q: u32) -> bool
     ensures { λ o. ⌜ o ≡ asked (push0Rule (rowFrom n (now (r .entry)) (k .vars) p) (rowFrom n (now (r .entry)) (k .vars) q)) ⌝ }
 {
-    matching::depth_of(n, k, r, p) + 1 == matching::depth_of(n, k, r, q)
+    matching::depth_of(k, r, p) + 1 == matching::depth_of(k, r, q)
 }
 
 fn push0_rule(n: u8, k: Class, r: &[u8], p: u32, q: u32) -> Ruling
@@ -112,7 +112,7 @@ fn push0_rule(n: u8, k: Class, r: &[u8], p: u32, q: u32) -> Ruling
 fn load_asks(n: u8, k: Class, r: &[u8], v: u8, p: u32, q: u32) -> bool
     ensures { λ o. ⌜ o ≡ asked (loadRule v (rowFrom n (now (r .entry)) (k .vars) p) (rowFrom n (now (r .entry)) (k .vars) q)) ⌝ }
 {
-    matching::depth_of(n, k, r, p) + 1 == matching::depth_of(n, k, r, q)
+    matching::depth_of(k, r, p) + 1 == matching::depth_of(k, r, q)
 }
 
 fn load_rule(n: u8, k: Class, r: &[u8], v: u8, p: u32, q: u32) -> Ruling
@@ -134,7 +134,7 @@ fn store_asks(n: u8, k: Class, r: &[u8], v: u8, p: u32, q: u32) -> bool
     ensures { λ o. ⌜ o ≡ asked (storeRule v (rowFrom n (now (r .entry)) (k .vars) p) (rowFrom n (now (r .entry)) (k .vars) q)) ⌝ }
 {
     entries::may_go(n, rows::variable_word(r, p, k.vars, k.limit, v))
-        & (matching::depth_of(n, k, r, p) == matching::depth_of(n, k, r, q) + 1)
+        & (matching::depth_of(k, r, p) == matching::depth_of(k, r, q) + 1)
 }
 
 fn store_rule(n: u8, k: Class, r: &[u8], v: u8, p: u32, q: u32) -> Ruling
@@ -155,9 +155,9 @@ fn store_rule(n: u8, k: Class, r: &[u8], v: u8, p: u32, q: u32) -> Ruling
 fn if_asks(n: u8, k: Class, r: &[u8], p: u32, q: u32, h: u32) -> bool
     ensures { λ o. ⌜ o ≡ asked (ifRule (rowFrom n (now (r .entry)) (k .vars) p) (rowFrom n (now (r .entry)) (k .vars) q) (rowFrom n (now (r .entry)) (k .vars) h)) ⌝ }
 {
-    let d = matching::depth_of(n, k, r, p);
+    let d = matching::depth_of(k, r, p);
     entries::is_int(n, rows::stack_word(r, p, k.vars, k.limit, 0))
-        & ((d == matching::depth_of(n, k, r, q) + 1) & (d == matching::depth_of(n, k, r, h) + 1))
+        & ((d == matching::depth_of(k, r, q) + 1) & (d == matching::depth_of(k, r, h) + 1))
 }
 
 fn if_rule(n: u8, k: Class, r: &[u8], p: u32, q: u32, h: u32) -> Ruling
@@ -182,7 +182,7 @@ fn enter_asks(n: u8, k: Class, r: &[u8], v: u8, p: u32, q: u32) -> bool
     ensures { λ o. ⌜ o ≡ asked (enterRule v (rowFrom n (now (r .entry)) (k .vars) p) (rowFrom n (now (r .entry)) (k .vars) q)) ⌝ }
 {
     entries::is_reference(n, rows::variable_word(r, p, k.vars, k.limit, v))
-        & (matching::depth_of(n, k, r, p) == matching::depth_of(n, k, r, q))
+        & (matching::depth_of(k, r, p) == matching::depth_of(k, r, q))
 }
 
 fn enter_rule(n: u8, k: Class, r: &[u8], v: u8, p: u32, q: u32) -> Ruling
@@ -204,7 +204,7 @@ fn exit_asks(n: u8, k: Class, r: &[u8], v: u8, p: u32, q: u32) -> bool
     ensures { λ o. ⌜ o ≡ asked (exitRule v (rowFrom n (now (r .entry)) (k .vars) p) (rowFrom n (now (r .entry)) (k .vars) q)) ⌝ }
 {
     entries::is_reference(n, rows::variable_word(r, p, k.vars, k.limit, v))
-        & (matching::depth_of(n, k, r, p) == matching::depth_of(n, k, r, q))
+        & (matching::depth_of(k, r, p) == matching::depth_of(k, r, q))
 }
 
 fn exit_rule(n: u8, k: Class, r: &[u8], v: u8, p: u32, q: u32) -> Ruling
@@ -232,7 +232,7 @@ fn throw_asks(n: u8, k: Class, r: &[u8], handler: u16, p: u32, h: u32) -> bool
     if handler == 0 {
         return matching::vars_go(n, k, r, p);
     }
-    0 == matching::depth_of(n, k, r, h)
+    0 == matching::depth_of(k, r, h)
 }
 
 fn thrown_short(n: u8, k: Class, r: &[u8], handler: u16, p: u32, h: u32) -> u8
@@ -258,7 +258,7 @@ fn new_rule(n: u8, k: Class, r: &[u8], c: u8, handler: u16, p: u32, q: u32, h: u
 {
     judged(
         throw_asks(n, k, r, handler, p, h)
-            & (matching::depth_of(n, k, r, p) + 1 == matching::depth_of(n, k, r, q)),
+            & (matching::depth_of(k, r, p) + 1 == matching::depth_of(k, r, q)),
         then_short(
             matching::made_edge(n, k, r, c, p, q),
             thrown_short(n, k, r, handler, p, h),
@@ -309,10 +309,10 @@ fn start_rule(n: u8, k: Class, r: &[u8], s: &[u8], args: u8, c: u8, p: u32, q: u
         };
     }
     judged(
-        (args as u16 + 1 <= matching::depth_of(n, k, r, p))
+        (args as u16 + 1 <= matching::depth_of(k, r, p))
             & arguments_go(n, k, r, s, args, p)
             & object_goes(n, k, r, c, p, args)
-            & (matching::depth_left(n, k, r, args + 1, p) == matching::depth_of(n, k, r, q)),
+            & (matching::depth_left(k, r, args + 1, p) == matching::depth_of(k, r, q)),
         matching::popped_edge(n, k, r, args + 1, p, q),
     )
 }

@@ -1,6 +1,6 @@
 -- A live thread of the invariant goes on: what a step of it may use, and what is enough for a good step.
 use Prim.Native.Nat.{ℕ, _+_, _≤_, _<_}
-use mathlib.Core.Path.{_≡_, refl}
+use mathlib.Core.Path.{_≡_}
 use mathlib.Core.Bool.{true}
 use native.Mathlib.Omega.{arith}
 use Rattle.bundle.specs.Program.{Program}

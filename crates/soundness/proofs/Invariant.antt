@@ -1,5 +1,5 @@
 -- The invariant of the whole machine that later theorems cite: `Inv`. P is the program, R its rows by class and address.
-use Prim.Native.Nat.{ℕ, _+_, _-_, _≤_, _<_}
+use Prim.Native.Nat.{ℕ, _-_, _≤_, _<_}
 use mathlib.Core.Path.{_≡_, refl}
 use mathlib.Core.Logic.{_≢_}
 use mathlib.Core.Bool.{Bool, true, false}
@@ -20,8 +20,8 @@ use Rattle.belongs.proofs.Belongs.{Placed, Counted, Belongs, belongs-intro}
 use Rattle.soundness.proofs.Kind.{type-refers}
 use Rattle.soundness.proofs.Weights.{names}
 use Rattle.soundness.proofs.Balance.{count-bound, far-free, held-slot}
-use Rattle.soundness.proofs.Slots.{slotOf, slot-var, slot-stack, slot-each}
-use Rattle.soundness.proofs.Values.{Sixteen, valueOf, value-var, value-place}
+use Rattle.soundness.proofs.Slots.{slotOf, slot-each}
+use Rattle.soundness.proofs.Values.{Sixteen, valueOf}
 use Rattle.soundness.proofs.Stands.{Stands, variable-kind, entry-kind}
 use Rattle.soundness.proofs.Accepted.{Address, Accepted}
 

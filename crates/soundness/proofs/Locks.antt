@@ -11,7 +11,7 @@ use Rattle.ground.proofs.Bools.{or-right}
 use Rattle.ground.proofs.Bounded.{all-elim}
 use Rattle.instructions.specs.declared.Var.{Var}
 use Rattle.bundle.specs.Program.{Program}
-use Rattle.entries.specs.Entries.{dipOf, isReference}
+use Rattle.entries.specs.Entries.{isReference}
 use Rattle.entries.specs.Fits.{wantEntered, wantLeft}
 use Rattle.rows.specs.Rows.{Row}
 use Rattle.matching.specs.Matching.{wants, edge}
@@ -28,7 +28,7 @@ use Rattle.machine.specs.Instructions.{enterObject, enterStep, exitObject, exit
 use Rattle.soundness.proofs.Held.{Meets, Fits, held}
 use Rattle.soundness.proofs.Accepted.{Address, Accepted}
 use Rattle.soundness.proofs.Stands.{Stands, fit-stands, is-object, object-known, dip-promises, enter-stands, exit-stands, fits-at}
-use Rattle.soundness.proofs.Invariant.{Live, Inv, bounded}
+use Rattle.soundness.proofs.Invariant.{Inv, bounded}
 use Rattle.soundness.proofs.Moves.{Others, others, live-standing, thread-moves, count-other, count-same, count-moves, Good, went, passes, either}
 use Rattle.soundness.proofs.Goes.{arrives, v16, d16, at-here}
 

@@ -9,7 +9,6 @@ use Rattle.ground.proofs.Bools.{and-fst, and-snd}
 use Rattle.instructions.specs.declared.Var.{Var}
 use Rattle.instructions.specs.declared.Addr.{Addr}
 use Rattle.bundle.specs.Program.{Program}
-use Rattle.entries.specs.Entries.{Entry}
 use Rattle.entries.specs.Entries.{Int}
 use Rattle.entries.specs.Entries.{noEnd, endOf, isInt, isReference}
 use Rattle.entries.specs.Fits.{mayGo}

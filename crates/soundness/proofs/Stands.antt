@@ -27,7 +27,7 @@ use Rattle.threads.specs.declared.Thread.{Thread}
 use Rattle.threads.specs.Threads.{entryOf, topOf, varOf, topped, pushed, popped, stored}
 use Rattle.soundness.proofs.Held.{Meets, Fits, compared}
 use Rattle.soundness.proofs.Kind.{Matches, takes-kind, int-inc, ref-value}
-use Rattle.soundness.proofs.Weights.{names, same-weaker, meets-weaker, int-goes, kept-slot, gone-slot, fresh-slot, light-slot}
+use Rattle.soundness.proofs.Weights.{names, same-weaker, int-goes, kept-slot, gone-slot, fresh-slot, light-slot}
 use Rattle.soundness.proofs.Weights as weights
 use Rattle.soundness.proofs.Balance.{Balanced, keep-all, keep-move, keep-split, keep-enter, keep-exit, dip-held}
 use Rattle.soundness.proofs.Slots.{slotOf, slot-var, slot-stack, slot-nostack, slot-popped, slot-pushed, slot-pushed-other, slot-stored, slot-stored-other, fits-weaker}
