@@ -5,8 +5,7 @@ use Prim.Native.Nat.{ℕ}
 use lib.IntN.{ℤ, pos, negsuc}
 use Rattle.structure.specs.declared.Verdict.{Verdict}
 use Rattle.structure.specs.Verdicts.{verdict, ruleFails}
-use Rattle.entries.specs.Entries.{Entry}
-use Rattle.entries.specs.Entries.{Int, Ref, Blank}
+use Rattle.entries.specs.Entries.{Entry, Int, Ref, Blank}
 use Rattle.rows.specs.Rows.{Row}
 use Rattle.rules.specs.Rule.{holds}
 use Rattle.rules.specs.Rules.{loadRule, storeRule, enterRule, exitRule}

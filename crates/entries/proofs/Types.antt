@@ -1,14 +1,14 @@
 -- What the bytes of an entry say of it, without taking it apart; what is no reference; and that fits is reflexive.
 use mathlib.Core.Path.{_≡_, refl, sym}
 use mathlib.Core.Bool.{Bool, true, false, cond, _&&_, _||_}
-use Prim.Native.Nat.{ℕ}
+use Prim.Native.Nat.{ℕ, _≤_}
 use lib.Dec.{eqb, leb}
 use borrow.Author.Tests.{eqb-true, eqb-false, eq-eqb, ne-eqb, le-leb}
 use native.Mathlib.Omega.{arith}
 use Rattle.ground.specs.Chain.{refuse}
 use Rattle.ground.proofs.Bools.{never}
-use Rattle.entries.specs.Entries.{Entry, Int, Top, Ref, Blank, Malformed, zeros, pairOk, entryOf, kindOf, classOf, dipOf, endOf, isInt, isTop, isBlank, isReference, isType, isOf}
-use Rattle.entries.specs.Fits.{takes, compare, want}
+use Rattle.entries.specs.Entries.{Entry, Int, Top, Ref, Blank, Malformed, zeros, pairOk, entryOf, kindOf, classOf, dipOf, endOf, isInt, isTop, isBlank, isReference, isType, isOf, noEnd}
+use Rattle.entries.specs.Fits.{takes, Want, compare, want}
 
 -- of a test of the bytes: that it holds for each kind is that it holds for all
 by-kind : (B : ℕ → Type 0) → B 0 → B 1 → B 2 → B 3
@@ -158,6 +158,21 @@ made-taken c (Ref b d e) = go (eqb b c) refl
     go false q = sym (ne-eqb c b (λ h. eqb-false b c q (sym h)))
 made-taken c Blank = refl
 made-taken c Malformed = refl
+
+-- THEOREM: a comparison gives 0 to 3, and of a type against Top 0 or 3 alone
+pub compare-few : (x : Entry) (w : Want) → compare x w ≤ 3
+unfolding compare refuse
+compare-few x w = go (w .kind x) (leb (w .dip) (dipOf x)) (leb (w .end) (endOf x))
+  where
+    go : (a b c : Bool) → cond a (cond b (cond c 0 3) 2) 1 ≤ 3
+    go true true true = omega arith
+    go true true false = omega arith
+    go true false c = omega arith
+    go false b c = omega arith
+
+pub compare-top : (x : Entry) → isType x ≡ true → compare x (want Top) ≡ cond (leb noEnd (endOf x)) 0 3
+unfolding compare takes refuse
+compare-top x h = rw (h, le-leb 0 (dipOf x) (omega arith))
 
 -- equal entries fit: most stay as they are from row to row
 takes-itself : (x : Entry) → takes x x ≡ true

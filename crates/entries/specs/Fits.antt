@@ -3,12 +3,11 @@ use mathlib.Core.Bool.{Bool, true, cond, _&&_}
 use Prim.Native.Nat.{ℕ, _+_, _-_}
 use lib.Dec.{leb, eqb}
 use Rattle.ground.specs.Chain.{refuse}
-use Rattle.entries.specs.Entries.{Entry}
-use Rattle.entries.specs.Entries.{noEnd, dipOf, endOf, kindOf, classOf, isTop, isType}
+use Rattle.entries.specs.Entries.{Entry, noEnd, dipOf, endOf, kindOf, classOf, isTop, isType}
 
 -- may go: Int, Top, or a reference with e ≥ 0 (Int and Top weigh e = 0)
 abbrev pub mayGo : Entry → Bool
-mayGo x = leb noEnd (endOf x)
+mayGo x = isType x && leb noEnd (endOf x)
 
 -- Int fits Int or Top, Top fits Top, a reference fits one of the same class, or Top: y takes x, pairs aside. What is no type fits only its like, and no rule sees it, since 8 comes before 9
 unfoldable pub takes : Entry → Entry → Bool

@@ -144,7 +144,7 @@ pub fn matches(n: u8, descriptor: u8, w: u32) -> bool
 pub fn may_go(n: u8, w: u32) -> bool
     ensures { λ r. ⌜ r ≡ mayGo (entryFrom n w) ⌝ }
 {
-    64 <= end_of(n, w)
+    is_type(n, w) & (64 <= end_of(n, w))
 }
 
 // v takes w, pairs aside.

@@ -5,9 +5,7 @@ use Prim.Native.Nat.{ℕ, _-_}
 use lib.Dec.{leb}
 use Rattle.ground.specs.Bounded.{allBelow}
 use Rattle.bundle.specs.Container.{classes, classAt, partOf}
-use Rattle.entries.specs.Entries.{Ref}
-use Rattle.entries.specs.Entries.{Entry}
-use Rattle.entries.specs.Entries.{noEnd, endOf, isInt, isReference}
+use Rattle.entries.specs.Entries.{Ref, Entry, noEnd, endOf, isInt, isReference}
 use Rattle.entries.specs.Fits.{takes, Want}
 use Rattle.rows.specs.Rows.{Row, rowAt}
 use Rattle.matching.specs.Matching.{popped, pushed, stored, wants, wantsAt, edge, stackGoes}

@@ -9,7 +9,7 @@ fn print_accepted(classes: u8) {
     io::write_all(STDOUT_FILENO, b"\n");
 }
 
-// Which half of a pair was short: for verdict 9 only.
+// Why the rule fails: for verdict 9 only.
 fn print_why(v: Verdict) {
     if v.number == 9 {
         io::write_all(STDOUT_FILENO, b" why ");

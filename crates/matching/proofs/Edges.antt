@@ -7,8 +7,7 @@ use native.Mathlib.Omega.{arith}
 use lib.Dec.{eqb}
 use borrow.Author.Tests.{eqb-true, le-leb}
 use Rattle.ground.specs.Chain.{refuse, scan}
-use Rattle.entries.specs.Entries.{Entry}
-use Rattle.entries.specs.Entries.{dipOf, endOf, isReference}
+use Rattle.entries.specs.Entries.{Entry, dipOf, endOf, isReference}
 use Rattle.entries.specs.Fits.{Want, compare, want, wantBoth, wantNothing}
 use Rattle.rows.specs.Rows.{Row}
 use Rattle.matching.specs.Matching.{under, popped, pushed, stored, emptied, wants, Wants, wantsAt, wantsLoaded, edge, thenShort, firstShort, edgeShort}

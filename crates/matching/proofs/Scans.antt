@@ -1,7 +1,7 @@
 -- Laws of `thenShort` and `firstShort`: the first number that isn't 0.
 use mathlib.Core.Path.{_≡_, refl, sym, ap, _∙_}
 use mathlib.Core.Bool.{Bool, true, false, cond}
-use Prim.Native.Nat.{ℕ, zero, suc, _<_}
+use Prim.Native.Nat.{ℕ, zero, suc, _<_, _≤_}
 use native.Mathlib.Omega.{arith}
 use lib.Dec.{eqb}
 use borrow.Author.Tests.{eqb-true, not-false}
@@ -54,3 +54,17 @@ pub first-then : (n : ℕ) (f : ℕ → ℕ) → firstShort (suc n) f ≡ thenSh
 unfolding scan
 first-then zero f = nothing-then (thenShort (f 0) 0)
 first-then (suc n) f = ap (λ w. thenShort w (thenShort (f (suc n)) 0)) (first-then n f) ∙ then-assoc (f 0) (firstShort n (λ j. f (suc j))) (thenShort (f (suc n)) 0)
+
+-- the first of numbers up to 3 is up to 3
+pub then-few : (a b : ℕ) → a ≤ 3 → b ≤ 3 → thenShort a b ≤ 3
+unfolding orThen
+then-few a b p q = go (isShort a)
+  where
+    go : (t : Bool) → cond t a b ≤ 3
+    go true = p
+    go false = q
+
+pub first-few : (n : ℕ) (f : ℕ → ℕ) → ((j : ℕ) → f j ≤ 3) → firstShort n f ≤ 3
+unfolding scan
+first-few zero f h = omega arith
+first-few (suc n) f h = then-few (firstShort n f) (thenShort (f n) 0) (first-few n f h) (then-few (f n) 0 (h n) (omega arith))

@@ -4,8 +4,7 @@ use Prim.Native.Nat.{ℕ, zero, suc, _+_, _-_}
 use lib.Dec.{eqb}
 use Rattle.ground.specs.Bounded.{allBelow}
 use Rattle.ground.specs.Chain.{orThen, scan}
-use Rattle.entries.specs.Entries.{Entry}
-use Rattle.entries.specs.Entries.{isReference}
+use Rattle.entries.specs.Entries.{Entry, isReference}
 use Rattle.entries.specs.Fits.{Want, mayGo, compare, want, wantBoth, wantNothing}
 use Rattle.rows.specs.Rows.{Row}
 

@@ -4,8 +4,7 @@ use Prim.Native.Nat.{ℕ, _+_, _-_, _*_}
 use Rattle.ground.specs.Bytes.{at, quad}
 use Rattle.bundle.specs.declared.Class.{Class}
 use Rattle.bundle.specs.Container.{width}
-use Rattle.entries.specs.Entries.{Entry}
-use Rattle.entries.specs.Entries.{entryFrom}
+use Rattle.entries.specs.Entries.{Entry, entryFrom}
 
 -- n argument descriptors; k instructions of four bytes; k rows: where a row begins that i rows come before
 unfoldable pub startBehind : Class → ℕ → ℕ

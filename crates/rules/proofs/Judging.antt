@@ -2,14 +2,15 @@
 use mathlib.Core.List.{List, [], _∷_}
 use mathlib.Core.Path.{_≡_, refl, ap, sym, _∙_}
 use mathlib.Core.Bool.{Bool, true, false, cond, _&&_}
-use Prim.Native.Nat.{ℕ, _+_, _-_}
+use Prim.Native.Nat.{ℕ, _+_, _-_, _≤_}
 use native.Mathlib.Omega.{arith}
 use lib.Dec.{eqb, leb}
 use borrow.Author.Tests.{eqb-true, eqb-false, eq-eqb, ne-eqb, le-leb, leb-true}
 use Rattle.ground.proofs.Bools.{and-false, never}
 use Rattle.ground.specs.Chain.{refuse}
-use Rattle.matching.specs.Matching.{Edge, meets, thenShort, edgeShort}
-use Rattle.matching.proofs.Scans.{then-nothing}
+use Rattle.entries.proofs.Types.{compare-few}
+use Rattle.matching.specs.Matching.{Edge, meets, thenShort, edgeShort, variableShort, entryShort}
+use Rattle.matching.proofs.Scans.{then-nothing, then-few, first-few}
 use Rattle.rules.specs.declared.Ruling.{Ruling}
 use Rattle.rules.specs.Rule.{Rule, rule, allMeet, asked, shortAlong, shortOf, holds, why, unasked, ruling}
 
@@ -33,6 +34,23 @@ module _ (vars : ℕ) (r : Rule) where
       go : (t : Bool) → refuse t unasked (record { asked = true; short = shortOf vars r }) .short ≡ cond t (shortOf vars r) 0
       go true = refl
       go false = refl
+
+-- THEOREM: why is 0 to 3
+along-few : (vars : ℕ) (es : List Edge) → shortAlong vars es ≤ 3
+unfolding edgeShort
+along-few vars [] = omega arith
+along-few vars (e ∷ es) =
+    then-few _ _
+    (then-few _ _ (first-few vars (variableShort e) (λ i. compare-few _ _)) (first-few (e .offered .depth) (entryShort e) (λ j. compare-few _ _)))
+    (along-few vars es)
+
+pub why-few : (vars : ℕ) (r : Rule) → why vars r ≤ 3
+unfolding why shortOf
+why-few vars r = go (asked r)
+  where
+    go : (t : Bool) → cond t (shortAlong vars (r .edges)) 0 ≤ 3
+    go true = along-few vars (r .edges)
+    go false = omega arith
 
 pub and-true : (a : Bool) → (a && true) ≡ a
 and-true true = refl

@@ -7,8 +7,7 @@ use Rattle.ground.specs.Bounded.{allBelow}
 use Rattle.instructions.specs.declared.Instruction.{Instruction}
 use Rattle.instructions.specs.declared.Instruction.the-variants.{Inc, Pop, Push0, Load, Store, If, Enter, Exit, New, Start, Throw, Return, Nothing}
 use Rattle.bundle.specs.Program.{Program}
-use Rattle.entries.specs.Entries.{Int, Ref}
-use Rattle.entries.specs.Entries.{noEnd, isInt, isReference, isOf, matches}
+use Rattle.entries.specs.Entries.{Int, Ref, noEnd, isInt, isReference, isOf, matches}
 use Rattle.entries.specs.Fits.{mayGo, wantEntered, wantLeft}
 use Rattle.rows.specs.Rows.{Row}
 use Rattle.matching.specs.Matching.{popped, pushed, stored, emptied, wants, wantsAt, wantsLoaded, Edge, edge, varsGo, stackGoes}

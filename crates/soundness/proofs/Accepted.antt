@@ -4,8 +4,7 @@ use mathlib.Core.Bool.{true}
 use Prim.Native.Nat.{ℕ, _≤_, _<_}
 use Rattle.bundle.specs.Program.{Program}
 use Rattle.structure.proofs.Structured.{WellFormed}
-use Rattle.entries.specs.Entries.{Top}
-use Rattle.entries.specs.Entries.{endOf, isType, argumentEntry}
+use Rattle.entries.specs.Entries.{Top, endOf, isType, argumentEntry}
 use Rattle.entries.specs.Fits.{entryFits}
 use Rattle.rows.specs.Rows.{Row}
 use Rattle.rules.specs.Rule.{holds}

@@ -7,9 +7,7 @@ use native.Mathlib.Omega.{arith}
 use native.Mathlib.Decide.{ℕ-discrete}
 use Rattle.ground.specs.Bounded.{sumBelow}
 use Rattle.ground.proofs.Sums.{sum-le, sum-one, sum-two, sum-ge, sum-term, sum-some}
-use Rattle.entries.specs.Entries.{Entry}
-use Rattle.entries.specs.Entries.{Blank}
-use Rattle.entries.specs.Entries.{noEnd, dipOf, endOf}
+use Rattle.entries.specs.Entries.{Entry, Blank, noEnd, dipOf, endOf}
 use Rattle.values.specs.declared.Value.{Value}
 use Rattle.soundness.proofs.Kind.{Matches, more-kind}
 use Rattle.soundness.proofs.Weights.{names, dip, end, cond-le, cond-top, cond-low, Weaker, far-end, Slot}

@@ -12,8 +12,7 @@ use lib.ListN.{length, replicate, getD-replicate}
 use Rattle.ground.specs.Bounded.{setBelow}
 use Rattle.instructions.specs.Table.{addr}
 use Rattle.bundle.specs.Program.{Program}
-use Rattle.entries.specs.Entries.{Int, Top, Ref, Blank}
-use Rattle.entries.specs.Entries.{noEnd, dipOf, endOf, argumentEntry}
+use Rattle.entries.specs.Entries.{Int, Top, Ref, Blank, noEnd, dipOf, endOf, argumentEntry}
 use Rattle.rows.specs.Rows.{Row}
 use Rattle.values.specs.declared.Value.the-variants.{Int as num}
 use Rattle.values.specs.declared.Slot.{Slot}

@@ -9,8 +9,7 @@ use borrow.Author.Tests.{leb-true, eqb-true}
 use Rattle.ground.specs.Chain.{refuse}
 use Rattle.ground.proofs.Bools.{and-fst, and-snd}
 use Rattle.ground.proofs.Chain.{scan-each}
-use Rattle.entries.specs.Entries.{Entry}
-use Rattle.entries.specs.Entries.{dipOf, endOf}
+use Rattle.entries.specs.Entries.{Entry, dipOf, endOf}
 use Rattle.entries.specs.Fits.{Want, compare}
 use Rattle.matching.specs.Matching.{Edge, meets, isShort, firstShort, variableShort, entryShort, edgeShort}
 use Rattle.matching.proofs.Scans.{not-short, then-zero}

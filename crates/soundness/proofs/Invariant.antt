@@ -7,8 +7,7 @@ use native.Mathlib.Omega.{arith}
 use native.Mathlib.Decide.{ℕ-discrete, decLt}
 use lib.ListN.{length, getD}
 use Rattle.bundle.specs.Program.{Program}
-use Rattle.entries.specs.Entries.{Entry}
-use Rattle.entries.specs.Entries.{noEnd, endOf}
+use Rattle.entries.specs.Entries.{Entry, noEnd, endOf}
 use Rattle.rows.specs.Rows.{Row}
 use Rattle.values.specs.Values.{zeroSlot, refers}
 use Rattle.threads.specs.declared.Thread.{Thread}

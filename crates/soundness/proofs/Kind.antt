@@ -5,9 +5,7 @@ use Prim.Native.Nat.{ℕ, _≤_, _<_}
 use native.Mathlib.Omega.{arith}
 use lib.Dec.{eqb}
 use borrow.Author.Tests.{eqb-true, lt-ltb}
-use Rattle.entries.specs.Entries.{Entry}
-use Rattle.entries.specs.Entries.{Int, Top, Ref, Blank, Malformed}
-use Rattle.entries.specs.Entries.{noEnd, isInt, isReference, isType, isOf, argumentEntry, matches}
+use Rattle.entries.specs.Entries.{Entry, Int, Top, Ref, Blank, Malformed, noEnd, isInt, isReference, isType, isOf, argumentEntry, matches}
 use Rattle.entries.specs.Entries as entries
 use Rattle.entries.specs.Fits.{takes}
 use Rattle.values.specs.declared.Value.{Value}

@@ -9,8 +9,7 @@ use borrow.Author.Tests.{leb-false, lt-ltb}
 use Rattle.ground.proofs.Bools.{or-false-snd}
 use Rattle.instructions.specs.declared.Addr.{Addr}
 use Rattle.bundle.specs.Program.{Program}
-use Rattle.entries.specs.Entries.{Ref}
-use Rattle.entries.specs.Entries.{noEnd}
+use Rattle.entries.specs.Entries.{Ref, noEnd}
 use Rattle.rows.specs.Rows.{Row}
 use Rattle.matching.specs.Matching.{wants, edge}
 use Rattle.matching.specs.Matching as rows

@@ -8,9 +8,7 @@ use native.Mathlib.Decide.{decLt}
 use lib.Dec.{ltb}
 use borrow.Author.Tests.{eq-eqb, ne-eqb, lt-ltb, le-ltb}
 use Rattle.ground.proofs.Bounded.{all-elim}
-use Rattle.entries.specs.Entries.{Entry}
-use Rattle.entries.specs.Entries.{Blank}
-use Rattle.entries.specs.Entries.{noEnd, endOf}
+use Rattle.entries.specs.Entries.{Entry, Blank, noEnd, endOf}
 use Rattle.rows.specs.Rows.{Row}
 use Rattle.matching.specs.Matching.{popped, pushed, stored, wants, edge, varGoes, varsGo, entryGoes, stackGoes}
 use Rattle.soundness.proofs.Held.{Fits}

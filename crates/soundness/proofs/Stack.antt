@@ -9,8 +9,7 @@ use Rattle.ground.proofs.Bools.{and-fst, and-snd}
 use Rattle.instructions.specs.declared.Var.{Var}
 use Rattle.instructions.specs.declared.Addr.{Addr}
 use Rattle.bundle.specs.Program.{Program}
-use Rattle.entries.specs.Entries.{Int}
-use Rattle.entries.specs.Entries.{noEnd, endOf, isInt, isReference}
+use Rattle.entries.specs.Entries.{Int, noEnd, endOf, isInt, isReference}
 use Rattle.entries.specs.Fits.{mayGo}
 use Rattle.rows.specs.Rows.{Row}
 use Rattle.matching.specs.Matching.{wants, wantsLoaded, edge}

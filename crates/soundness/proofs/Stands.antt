@@ -11,9 +11,7 @@ use borrow.Author.Tests.{eqb-true, eqb-false, eq-eqb, ne-eqb}
 use Rattle.ground.specs.Bounded.{fillFrom}
 use Rattle.ground.proofs.Bools.{and-fst, and-snd}
 use Rattle.ground.proofs.Writes.{fill-length}
-use Rattle.entries.specs.Entries.{Entry}
-use Rattle.entries.specs.Entries.{Int, Blank}
-use Rattle.entries.specs.Entries.{noEnd, dipOf, endOf, isInt, isReference}
+use Rattle.entries.specs.Entries.{Entry, Int, Blank, noEnd, dipOf, endOf, isInt, isReference}
 use Rattle.entries.specs.Fits.{Want, takes, want, wantEntered, wantLeft, wantBoth}
 use Rattle.entries.proofs.Types.{fits-itself}
 use Rattle.rows.specs.Rows.{Row}

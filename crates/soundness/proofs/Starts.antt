@@ -13,9 +13,7 @@ use Rattle.ground.proofs.Bools.{and-fst, and-snd}
 use Rattle.ground.proofs.Bounded.{all-elim, all-intro, first-is}
 use Rattle.ground.proofs.Writes.{set-length}
 use Rattle.bundle.specs.Program.{Program}
-use Rattle.entries.specs.Entries.{Entry}
-use Rattle.entries.specs.Entries.{Ref}
-use Rattle.entries.specs.Entries.{noEnd, isInt, isOf, matches}
+use Rattle.entries.specs.Entries.{Entry, Ref, noEnd, isInt, isOf, matches}
 use Rattle.entries.specs.Fits.{mayGo}
 use Rattle.rows.specs.Rows.{Row}
 use Rattle.matching.specs.Matching.{wants, edge}

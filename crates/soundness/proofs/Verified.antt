@@ -13,9 +13,7 @@ use Rattle.ground.proofs.Bounded.{all-elim}
 use Rattle.bundle.specs.Container.{classes, classAt, partOf}
 use Rattle.bundle.specs.Program.{methodOf, methodAt, programOf}
 use Rattle.structure.proofs.Structured.{WellFormed, well-formed}
-use Rattle.entries.specs.Entries.{Entry}
-use Rattle.entries.specs.Entries.{Int, Top, Ref, Blank, Malformed}
-use Rattle.entries.specs.Entries.{minEnd, zeros, pairOk, entryOf, entryFrom, endOf, isTop, isType, argumentEntry}
+use Rattle.entries.specs.Entries.{Entry, Int, Top, Ref, Blank, Malformed, minEnd, zeros, pairOk, entryOf, entryFrom, endOf, isTop, isType, argumentEntry}
 use Rattle.entries.specs.Fits.{entryFits}
 use Rattle.rows.specs.Rows.{Row, variableAt, stackAt, rowAt}
 use Rattle.forms.specs.Forms.{varFormed, entryFormed, varsFormed, stackFormed, rowFormed, firstVar, firstVars, firstRow}

@@ -6,10 +6,8 @@ use native.Mathlib.Nat.{le-refl}
 use native.Mathlib.Omega.{arith}
 use lib.Dec.{eqb}
 use borrow.Author.Tests.{leb-true, ne-eqb}
-use Rattle.ground.proofs.Bools.{never}
-use Rattle.entries.specs.Entries.{Entry}
-use Rattle.entries.specs.Entries.{Int, Top, Ref, Blank, Malformed}
-use Rattle.entries.specs.Entries.{noEnd, dipOf, endOf, isInt, isReference}
+use Rattle.ground.proofs.Bools.{and-snd, never}
+use Rattle.entries.specs.Entries.{Entry, Int, Top, Ref, Blank, Malformed, noEnd, dipOf, endOf, isInt, isReference, isType}
 use Rattle.entries.specs.Fits.{mayGo, want}
 use Rattle.values.specs.declared.Value.{Value}
 use Rattle.values.specs.declared.Value.the-variants.{Int as num, Ref as obj}
@@ -54,7 +52,7 @@ pub meets-weaker : (e f : Entry) → Meets e (want f) → Weaker e f
 meets-weaker e f h = record { dip-less = h .dip; end-less = h .end; kind = λ n cls v m. takes-kind n cls f e v (h .kind) m }
 
 pub goes-end : (e : Entry) → mayGo e ≡ true → noEnd ≤ endOf e
-goes-end e h = leb-true noEnd (endOf e) h
+goes-end e h = leb-true noEnd (endOf e) (and-snd (isType e) _ h)
 
 -- what is no reference weighs nothing
 pub plain-pair : (e : Entry) → isReference e ≡ false → (dipOf e ≡ 0) × (endOf e ≡ noEnd)

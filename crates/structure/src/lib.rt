@@ -8,7 +8,7 @@ ghost use Prim.Native.Nat.{_<_, _≤_};
 use bundle::Class;
 use instructions::Addr;
 
-// The document's number, class and address; 0 is no verdict or, at the end, accepted with the class count.
+// The document's number, class and address, and why a 9's rule fails; 0 is no verdict or, at the end, accepted with the class count.
 pub struct Verdict {
     pub number: u8,
     pub class: u8,

@@ -17,8 +17,9 @@ use Rattle.matching.specs.Matching.{Edge, isShort, thenShort, firstShort, varia
 use Rattle.matching.proofs.Scans.{nothing-then, then-nothing, then-assoc, not-short}
 use Rattle.rules.specs.Rule.{Rule, asked, shortAlong, shortOf, why}
 use Rattle.rules.specs.Rule as rules
+use Rattle.rules.proofs.Judging.{why-few}
 use Rattle.verifier.specs.Verdict.{verdictOf}
-use Rattle.verifier.specs.Places.{Place, structural, form, first, rule, ruleIn, holds, drawn}
+use Rattle.verifier.specs.Places.{Place, structural, form, first, rule, Within, ruleIn, holds, drawn}
 use Rattle.verifier.specs.Why.{numbered, comparisons, AllZero, First, Explains, WhyFirst}
 use Rattle.verifier.proofs.FirstBroken.{verdict-first, zero-verdict}
 
@@ -75,7 +76,7 @@ explains vars r h = go (asked r) refl h
 module _ (b : List ℕ) where
   -- no why but with 9
   plain : (n c a : ℕ) → n ≢ 9 → WhyFirst b (verdict n c a)
-  plain n c a h = record { nine = λ q. absurd (h q); other = λ _. refl }
+  plain n c a h = record { nine = λ q. absurd (h q); other = λ _. refl; few = omega arith }
 
   structural-plain : (p : structure.Place) → WhyFirst b (structure.drawn p)
   structural-plain structure.whole = plain 1 0 0 (omega arith)
@@ -86,11 +87,11 @@ module _ (b : List ℕ) where
   structural-plain (structure.descriptors c) = plain 6 c 0 (omega arith)
   structural-plain (structure.instruction c l) = plain 7 c l (omega arith)
 
-  of-place : (p : Place) → holds b p ≡ false → WhyFirst b (drawn b p)
-  of-place (structural p) h = structural-plain p
-  of-place (form c l) h = plain 8 c l (omega arith)
-  of-place (first c) h = plain 10 c 0 (omega arith)
-  of-place (rule c l) h = record { nine = λ _. explains _ (ruleIn b c l) h; other = λ n. absurd (n refl) }
+  of-place : (p : Place) → Within b p → holds b p ≡ false → WhyFirst b (drawn b p)
+  of-place (structural p) w h = structural-plain p
+  of-place (form c l) w h = plain 8 c l (omega arith)
+  of-place (first c) w h = plain 10 c 0 (omega arith)
+  of-place (rule c l) w h = record { nine = λ _. (w, explains _ (ruleIn b c l) h); other = λ n. absurd (n refl); few = why-few _ (ruleIn b c l) }
 
   -- THEOREM: a 9 with why 0 names an address where something asked fails; with why w above 0 one where all that is asked holds, and w is the first comparison that isn't 0
   pub why-first : WhyFirst b (verdictOf b)
@@ -98,4 +99,4 @@ module _ (b : List ℕ) where
     where
       go : (t : Bool) → isBad (verdictOf b) ≡ t → WhyFirst b (verdictOf b)
       go false e = rw (zero-verdict b (verdict-first b .well e)) (plain 0 (classes b) 0 (omega arith))
-      go true e = let n = verdict-first b .ill e in rw (n .is) (of-place (n .place) (n .broken))
+      go true e = let n = verdict-first b .ill e in rw (n .is) (of-place (n .place) (n .within) (n .broken))

@@ -2,12 +2,12 @@
 use mathlib.Core.List.{List, [], _∷_, _++_}
 use mathlib.Core.Path.{_≡_}
 use mathlib.Core.Bool.{true, false}
-use Prim.Native.Nat.{ℕ, zero, suc, _<_}
+use Prim.Native.Nat.{ℕ, zero, suc, _<_, _≤_}
 use Rattle.bundle.specs.Container.{classAt}
 use Rattle.structure.specs.declared.Verdict.{Verdict}
 use Rattle.matching.specs.Matching.{Edge, variableShort, entryShort}
 use Rattle.rules.specs.Rule.{Rule, asked}
-use Rattle.verifier.specs.Places.{ruleIn}
+use Rattle.verifier.specs.Places.{Address, ruleIn}
 
 -- f 0, .., f (n - 1)
 unfoldable pub numbered : ℕ → (ℕ → ℕ) → List ℕ
@@ -35,7 +35,8 @@ pub record Explains (vars : ℕ) (r : Rule) (w : ℕ) : Type 0 where
   pub unasked : w ≡ 0 → asked r ≡ false
   pub short : 0 < w → (asked r ≡ true) × First (comparisons vars (r .edges)) w
 
--- of a verdict: a 9 names an address whose rule its why explains; no other verdict has a why
+-- of a verdict: a 9 names an address of the bundle whose rule its why explains; no other verdict has a why; it is 0 to 3
 pub record WhyFirst (b : List ℕ) (v : Verdict) : Type 0 where
-  pub nine : v .number ≡ 9 → Explains (classAt b (v .class) .vars) (ruleIn b (v .class) (v .address)) (v .why)
+  pub nine : v .number ≡ 9 → Address b (v .class) (v .address) × Explains (classAt b (v .class) .vars) (ruleIn b (v .class) (v .address)) (v .why)
   pub other : (v .number ≡ 9 → ⊥) → v .why ≡ 0
+  pub few : v .why ≤ 3
