@@ -1,88 +1,95 @@
 // Writes a bundle part by part: each function puts its bytes at a place of the lent buffer and gives back the place after them.
-// Nothing is written past the buffer's end; of a number that is to be a byte, its low byte is.
-use crate::parts::Buffer;
-use crate::parts::Code;
-use crate::parts::Entry;
+// Nothing is written past the buffer's end.
+use crate::grammar::Step;
 
-pub(crate) fn byte(b: &mut Buffer, at: usize, x: u16) -> usize {
+// Room for one byte more than a bundle may have.
+pub(crate) type Buffer = [u8; 65536];
+
+fn byte(b: &mut Buffer, at: usize, x: u8) -> usize {
     if at < 65536 {
-        b[at] = (x % 256) as u8;
+        b[at] = x;
         return at + 1;
     }
     at
 }
 
-pub(crate) fn word(b: &mut Buffer, at: usize, x: u16) -> usize {
-    let p = byte(b, at, x / 256);
-    byte(b, p, x % 256)
-}
-
-pub(crate) fn bytes(b: &mut Buffer, at: usize, x: u16, n: usize) -> usize {
+// The bytes of a step, which are its numbers from one on.
+fn put(b: &mut Buffer, at: usize, r: Step, from: usize) -> usize {
+    let v = r.numbers;
     let mut p = at;
-    for _ in 0..n {
-        p = byte(b, p, x);
+    for i in from..r.count {
+        p = byte(b, p, low(&v, i));
     }
     p
 }
 
-pub(crate) fn code(b: &mut Buffer, at: usize, c: Code) -> usize {
-    let p = byte(b, at, c.0);
-    let p = byte(b, p, c.1);
-    word(b, p, c.2)
+fn low(v: &[u32], i: usize) -> u8 {
+    if i < v.len() {
+        return (v[i] % 256) as u8;
+    }
+    0
 }
 
-pub(crate) fn codes(b: &mut Buffer, at: usize, c: Code, n: usize) -> usize {
+fn fill(b: &mut Buffer, at: u32, r: Step, n: u32) -> usize {
+    let mut p = at as usize;
+    for _ in 0..n {
+        p = put(b, p, r, 2);
+    }
+    p
+}
+
+// So many entries of one kind, the other bytes 0.
+fn entries(b: &mut Buffer, at: usize, kind: u8, n: u32) -> usize {
     let mut p = at;
     for _ in 0..n {
-        p = code(b, p, c);
+        p = byte(b, p, kind);
+        p = byte(b, p, 0);
+        p = byte(b, p, 0);
+        p = byte(b, p, 0);
     }
     p
 }
 
 // V variable entries, all of them Top (the four bytes 2, 0, 0, 0), the depth 0 and K stack entries of zeros.
-fn blank_row(b: &mut Buffer, at: usize, vars: u16, limit: u16) -> usize {
-    let p = codes(b, at, Code(2, 0, 0), vars as usize);
-    let p = byte(b, p, 0);
-    bytes(b, p, 0, 4 * (limit as usize))
-}
-
-pub(crate) fn blank_rows(b: &mut Buffer, at: usize, vars: u16, limit: u16, n: usize) -> usize {
-    let mut p = at;
+fn rows(b: &mut Buffer, at: u32, vars: u32, limit: u32, n: u32) -> usize {
+    let mut p = at as usize;
     for _ in 0..n {
-        p = blank_row(b, p, vars, limit);
+        p = entries(b, p, 2, vars);
+        p = byte(b, p, 0);
+        p = entries(b, p, 0, limit);
     }
     p
 }
 
-pub(crate) fn entry(b: &mut Buffer, at: usize, e: Entry) -> usize {
-    let p = word(b, at, e.0);
-    let p = byte(b, p, e.1);
-    let p = byte(b, p, e.2);
-    let p = byte(b, p, e.3);
-    let p = byte(b, p, e.4);
-    word(b, p, e.5)
+// In the bundle `bench` the code of class c stands at 120c + 9 and its rows of 25 bytes from 120c + 25; address l of class c is written 10c + l.
+fn bench_code(l: u32) -> usize {
+    (120 * (l % 256 / 10) + 4 * (l % 10) + 5) as usize
 }
 
-pub(crate) fn entries(b: &mut Buffer, at: usize, e: Entry, n: usize) -> usize {
-    let mut p = at;
-    for _ in 0..n {
-        p = entry(b, p, e);
+fn bench_row(l: u32, i: u32, k: u32) -> usize {
+    (120 * (l % 256 / 10) + 25 * (l % 10) + 4 * (i % 16) + k % 16) as usize
+}
+
+// The depth that ends with an entry of the stack.
+fn deeper(i: u32) -> u8 {
+    (i % 16) as u8 + 1
+}
+
+// A step that writes bytes, by its capital.
+pub(crate) fn write(b: &mut Buffer, r: Step) -> usize {
+    let v = r.numbers;
+    let first = v[0];
+    let second = v[1];
+    let third = v[2];
+    let of = r.of;
+    match of {
+        b'R' => rows(b, first, second, third, v[3]),
+        b'I' => put(b, bench_code(first), r, 1),
+        b'K' => put(b, bench_row(first, second, third), r, 3),
+        b'D' => {
+            byte(b, bench_row(first, 0, 8), deeper(second));
+            put(b, bench_row(first, second, third), r, 3)
+        }
+        _ => fill(b, first, r, second),
     }
-    p
-}
-
-// The trailer as it should be; it ends the bundle, so what comes back is the bundle's length.
-pub(crate) fn trailer(
-    b: &mut Buffer,
-    at: usize,
-    directory: u16,
-    classes: u16,
-    length: u16,
-) -> usize {
-    let p = word(b, at, directory);
-    let p = byte(b, p, classes);
-    let p = byte(b, p, 0);
-    let p = word(b, p, length);
-    let p = byte(b, p, 0x4C);
-    byte(b, p, 0x4B)
 }

@@ -1,4 +1,4 @@
-// The words and numbers of a script's step.
+// Parts of a text: a text is lines, a line is steps, a step is words.
 ghost use Prim.Native.Nat.{_≤_};
 ghost use lib.ListN.{length};
 
@@ -29,93 +29,48 @@ pub(crate) fn same(a: &[u8], b: &[u8]) -> bool {
     true
 }
 
-// A number with one more decimal digit, modulo 2^32.
-fn longer(n: u32, digit: u8) -> u32 {
-    if digit < 48 {
-        return n;
+// The part from a place on; it is empty where there is no such place.
+pub(crate) fn from<'a>(s: &'a [u8], at: usize) -> &'a [u8] {
+    if at <= s.len() {
+        return &s[at..];
     }
-    ((n as u64 * 10 + (digit - 48) as u64) % 4294967296) as u32
+    &s[..0]
 }
 
-fn decimal(w: &[u8]) -> u32 {
-    let mut n: u32 = 0;
-    for i in 0..w.len() {
-        n = longer(n, ground::byte(w, i));
+// The first n bytes, or all of them where there are fewer.
+pub(crate) fn first<'a>(s: &'a [u8], n: usize) -> &'a [u8] {
+    if n <= s.len() {
+        return &s[..n];
     }
-    n
+    s
 }
 
-// The place of a word among words that are parted by spaces, from 1; 65,535 where it is none of them.
-fn place_in(words: &[u8], w: &[u8]) -> u16 {
+// What stands from a place on, up to the next such byte.
+pub(crate) fn piece<'a>(s: &'a [u8], at: usize, stop: u8) -> &'a [u8] {
+    let rest = from(s, at);
+    let end = upto(rest, 0, stop);
+    &rest[..end]
+}
+
+// What follows such a word and a space at the start of a line; it is empty where the line begins otherwise.
+pub(crate) fn after_word<'a>(line: &'a [u8], w: &[u8]) -> &'a [u8] {
+    if same(piece(line, 0, b' '), w) {
+        return from(line, std::num::wrapping_add_usize(w.len(), 1));
+    }
+    first(line, 0)
+}
+
+// The place of a word among words that are parted by spaces, from 1; 0 where it is none of them.
+pub(crate) fn place_in(list: &[u8], w: &[u8]) -> u64 {
     let mut at = 0;
-    let mut place: u16 = 1;
-    while at < words.len() {
-        let end = upto(words, at, b' ');
-        if same(&words[at..end], w) {
+    let mut place: u64 = 1;
+    while at < list.len() {
+        let end = upto(list, at, b' ');
+        if same(&list[at..end], w) {
             return place;
         }
-        place = std::num::wrapping_add_u16(place, 1);
+        place = std::num::wrapping_add_u64(place, 1);
         at = end + 1;
     }
-    65535
-}
-
-// The opcodes stand at their own numbers; the numbers of the others are those of `bundles`, `script`, `bench`, `states` and `runs`.
-fn word(w: &[u8]) -> u16 {
-    place_in(
-        b"inc pop push0 load store if enter exit new start athrow return one pair trio roomy lone front largest longest own_entry within_row case_a two eight nine bench byte word code entry at var stack depth bytes trailer length verdict record judge int top ref blank live ended local locals place places count objects class fresh step fails steps gives",
-        w,
-    )
-}
-
-// A number below zero is the one of its 32 bits.
-fn value(w: &[u8]) -> u32 {
-    if ground::byte(w, 0) == b'-' {
-        return std::num::wrapping_sub_u32(0, decimal(w));
-    }
-    if ground::byte(w, 0) < 58 {
-        return decimal(w);
-    }
-    word(w) as u32
-}
-
-fn with_value(v: [u32; 8], k: usize, w: &[u8]) -> [u32; 8] {
-    let mut next = v;
-    if k < 8 {
-        next[k] = value(w);
-    }
-    next
-}
-
-// The values of a step's first eight words and numbers, each parted from the next by one space; 0 where there are fewer.
-pub(crate) fn values(s: &[u8]) -> [u32; 8] {
-    let mut v = [0u32; 8];
-    let mut k: usize = 0;
-    let mut at = 0;
-    while at < s.len() {
-        let end = upto(s, at, b' ');
-        let next = with_value(v, k, &s[at..end]);
-        v = next;
-        k = std::num::wrapping_add_usize(k, 1);
-        at = end + 1;
-    }
-    v
-}
-
-fn low(x: u32) -> u16 {
-    (x % 65536) as u16
-}
-
-// The low 16 bits of each value, which are all that a bundle's parts want.
-pub(crate) fn lows(v: [u32; 8]) -> [u16; 8] {
-    [
-        low(v[0]),
-        low(v[1]),
-        low(v[2]),
-        low(v[3]),
-        low(v[4]),
-        low(v[5]),
-        low(v[6]),
-        low(v[7]),
-    ]
+    0
 }

@@ -5,10 +5,10 @@ use Rattle.vectors.proofs.words.place_in.Statement.{statement}
 use Rattle.vectors.proofs.words.place_in.Tie as tie
 
 abbrev Inv-loop : tie.InvT-loop
-Inv-loop words w at₀ place₀ at place = at ≤ length words + 1
+Inv-loop list w at₀ place₀ at place = at ≤ length list + 1
 
 abbrev μ-loop : tie.MeasureT-loop
-μ-loop words w at₀ place₀ at place = length words + 1 - at
+μ-loop list w at₀ place₀ at place = length list + 1 - at
 
 loop-holds : tie.Need-loop-holds Inv-loop μ-loop
 loop-holds c = search needs
@@ -31,8 +31,8 @@ same-requires c κs = search needs
 returns : tie.Need-returns Inv-loop μ-loop
 returns c = search needs
 
-wrapping-add-u16-requires : tie.Need-wrapping-add-u16-requires Inv-loop μ-loop
-wrapping-add-u16-requires c κs = search needs
+wrapping-add-u64-requires : tie.Need-wrapping-add-u64-requires Inv-loop μ-loop
+wrapping-add-u64-requires c κs = search needs
 
 add-at : tie.Need-add-at Inv-loop μ-loop
 add-at c = search needs
@@ -59,7 +59,7 @@ place-in-spec =
     part-same-end
     same-requires
     returns
-    wrapping-add-u16-requires
+    wrapping-add-u64-requires
     add-at
     loop-less
     loop-again

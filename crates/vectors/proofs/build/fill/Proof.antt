@@ -1,0 +1,33 @@
+use Prim.Native.Nat.{_≤_, _-_}
+use borrow.Author.Needs.{needs}
+use Rattle.vectors.proofs.build.fill.Statement.{statement}
+use Rattle.vectors.proofs.build.fill.Tie as tie
+
+abbrev Inv-loop : tie.InvT-loop
+Inv-loop b₀ at r n p₀ counter₀ b p counter = counter ≤ n
+
+abbrev μ-loop : tie.MeasureT-loop
+μ-loop b₀ at r n p₀ counter₀ b p counter = n - counter
+
+loop-holds : tie.Need-loop-holds Inv-loop μ-loop
+loop-holds c = search needs
+
+put-requires : tie.Need-put-requires Inv-loop μ-loop
+put-requires c κs = search needs
+
+add-counter : tie.Need-add-counter Inv-loop μ-loop
+add-counter c = search needs
+
+loop-less : tie.Need-loop-less Inv-loop μ-loop
+loop-less c = search needs
+
+loop-again : tie.Need-loop-again Inv-loop μ-loop
+loop-again c = search needs
+
+returns : tie.Need-returns Inv-loop μ-loop
+returns c = search needs
+
+pub fill-spec : {M : Type 1} → statement M
+fill-spec =
+    tie.close
+    (tie.spec Inv-loop μ-loop loop-holds put-requires add-counter loop-less loop-again returns)
