@@ -152,7 +152,7 @@ fails Mb11
 steps Mb0w
 fresh F
 verdict Sbbw
-judge Jbbw
+judge Jbbwb
 record Qbwb
 gives Gb
 ",

@@ -15,12 +15,17 @@ fn is(name: &[u8], got: [u32; 4], want: [u32; 4]) -> bool {
     true
 }
 
-// Number, class, address.
+// Number, class, address, why; of a verdict on the structure why is left out, and 0.
 pub(crate) fn verdict(name: &[u8], got: Verdict, v: [u32; 16]) -> bool {
     is(
         name,
-        [got.number as u32, got.class as u32, got.address as u32, 0],
-        [v[0], v[1], v[2], 0],
+        [
+            got.number as u32,
+            got.class as u32,
+            got.address as u32,
+            got.why as u32,
+        ],
+        [v[0], v[1], v[2], v[3]],
     )
 }
 
