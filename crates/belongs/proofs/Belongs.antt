@@ -7,7 +7,7 @@ use lib.ListN.{getD}
 use lib.Dec.{ltb, leb, eqb}
 use native.Mathlib.Omega.{arith}
 use native.Mathlib.Decide.{ℕ-discrete, decLt}
-use borrow.Author.Tests.{ltb-true, leb-true, eqb-false, not-true, lt-ltb, le-leb, eq-eqb, ne-eqb}
+use borrow.Author.Tests.{ltb-true, leb-true, eqb-true, eqb-false, not-true, lt-ltb, le-leb, eq-eqb, ne-eqb}
 use Rattle.ground.specs.Bounded.{countBelow}
 use Rattle.ground.proofs.Bools.{and-fst, and-snd, or-right, never}
 use Rattle.ground.proofs.Bounded.{all-elim, all-intro, count-two, count-sole}
@@ -20,7 +20,7 @@ use Rattle.threads.specs.declared.Thread.{Thread}
 use Rattle.threads.specs.Threads.{varOf}
 use Rattle.state.specs.declared.State.{State}
 use Rattle.state.specs.State.{threadAt, countOf, classOf}
-use Rattle.belongs.specs.Belongs.{placesRefer, placedOk, liveOk, threadOk, threadsOk, objectOk, objectsOk, countOk, threadCountsOk, countsOk, holdsAt, soleHolder, soleHolders, stateOk}
+use Rattle.belongs.specs.Belongs.{placesRefer, placedOk, liveOk, threadOk, threadsOk, objectOk, firstOk, objectsOk, countOk, threadCountsOk, countsOk, holdsAt, soleHolder, soleHolders, stateOk}
 
 -- a live thread stands in a method of the bundle, and each place in use holds an integer or refers to an object
 pub record Placed (P : Program) (objects : ℕ) (t : Thread) : Type 0 where
@@ -39,6 +39,8 @@ pub record Counted (objects : ℕ) (live : Bool) (o n : ℕ) : Type 0 where
 
 pub record Belongs (P : Program) (s : State) : Type 0 where
   pub live-placed : (i : ℕ) → i < 8 → threadAt s i .live ≡ true → Placed P (s .objects) (threadAt s i)
+  pub some-object : 1 ≤ s .objects
+  pub first-class : classOf s 0 ≡ P .exception
   pub objects-32 : s .objects ≤ 32
   pub object-class : (o : ℕ) → o < s .objects → classOf s o < P .classes
   pub counted : (i o : ℕ) → i < 8 → o < 32 → Counted (s .objects) (threadAt s i .live) o (countOf (s .counts) i o)
@@ -156,11 +158,13 @@ module _ (P : Program) (s : State) where
   counts-intro h = all-intro _ 8 (λ i l. all-intro _ 32 (λ o k. counted-intro (s .objects) (threadAt s i .live) o _ (h i o l k)))
 
   pub belongs-elim : stateOk P s ≡ true → Belongs P s
-  unfolding stateOk objectsOk soleHolders
+  unfolding stateOk objectsOk firstOk soleHolders
   belongs-elim e =
       let counts = counts-elim (search (and-fst, and-snd)) in
       record {
         live-placed = threads-elim (search (and-fst, and-snd));
+        some-object = leb-true _ _ (search (and-fst, and-snd));
+        first-class = eqb-true _ _ (search (and-fst, and-snd));
         objects-32 = leb-true _ _ (search (and-fst, and-snd));
         object-class = λ o l. ltb-true _ _ (all-elim (objectOk P (s .classes)) (s .objects) (search (and-fst, and-snd)) o l);
         counted = counts;
@@ -168,9 +172,11 @@ module _ (P : Program) (s : State) where
       }
 
   pub belongs-intro : Belongs P s → stateOk P s ≡ true
-  unfolding stateOk objectsOk soleHolders
+  unfolding stateOk objectsOk firstOk soleHolders
   belongs-intro h =
       rw (
+        le-leb _ _ (h .some-object),
+        eq-eqb _ _ (h .first-class),
         le-leb _ _ (h .objects-32),
         all-intro _ (s .objects) (λ o l. lt-ltb _ _ (h .object-class o l)),
         threads-intro (h .live-placed),

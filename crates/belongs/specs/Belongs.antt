@@ -47,9 +47,13 @@ threadsOk P s = allBelow 8 (threadOkAt P s)
 abbrev pub objectOk : Program → List ℕ → ℕ → Bool
 objectOk P classes o = ltb (getD classes o 0) (P .classes)
 
--- no more than 32 objects, each of a class of the bundle
+-- there is an object 0, and it is of the exception class (document 02, Q-6)
+unfoldable pub firstOk : Program → ℕ → List ℕ → Bool
+firstOk P objects classes = leb 1 objects && eqb (getD classes 0 0) (P .exception)
+
+-- .. and no more than 32 objects, each of a class of the bundle
 unfoldable pub objectsOk : Program → ℕ → List ℕ → Bool
-objectsOk P objects classes = leb objects 32 && allBelow objects (objectOk P classes)
+objectsOk P objects classes = firstOk P objects classes && leb objects 32 && allBelow objects (objectOk P classes)
 
 -- a count is at most 2,047, and above 0 only on an object and at a live thread
 unfoldable pub countOk : ℕ → Bool → ℕ → ℕ → Bool

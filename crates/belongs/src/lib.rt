@@ -2,7 +2,7 @@
 ghost use mathlib.Core.Path.{_≡_};
 ghost use mathlib.Core.Bool.{cond};
 ghost use Rattle.bundle.specs.Program.{programOf};
-ghost use Rattle.belongs.specs.Belongs.{placesRefer, placedOk, liveOk, threadOk, objectsOk, countOk, threadCountsOk, holdsAt, soleHolder, soleHolders, stateOk};
+ghost use Rattle.belongs.specs.Belongs.{placesRefer, placedOk, liveOk, threadOk, firstOk, objectsOk, countOk, threadCountsOk, holdsAt, soleHolder, soleHolders, stateOk};
 use bundle::Class;
 use state::State;
 use threads::Thread;
@@ -65,9 +65,18 @@ fn thread_ok(b: &[u8], objects: u8, t: Thread) -> bool
     live_ok(b, objects, t)
 }
 
+fn first_ok(b: &[u8], objects: u8, classes: &[u8]) -> bool
+    ensures { λ r. ⌜ r ≡ firstOk (programOf (now (b .entry))) objects (now (classes .entry)) ⌝ }
+{
+    (1 <= objects) & (ground::byte(classes, 0) == bundle::exception(b))
+}
+
 fn objects_ok(b: &[u8], objects: u8, classes: &[u8]) -> bool
     ensures { λ r. ⌜ r ≡ objectsOk (programOf (now (b .entry))) objects (now (classes .entry)) ⌝ }
 {
+    if !first_ok(b, objects, classes) {
+        return false;
+    }
     if 32 < objects {
         return false;
     }

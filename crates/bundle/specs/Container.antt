@@ -18,6 +18,10 @@ directoryAt b = be16 b (length b - 8)
 abbrev pub classes : List ℕ → ℕ
 classes b = at b (length b - 6)
 
+-- the trailer's spare byte names the bundle's exception class (document 02, Q-6)
+abbrev pub exception : List ℕ → ℕ
+exception b = at b (length b - 5)
+
 -- record offset (2), arguments n (1), variables V (1), stack limit K (1), a zero (1), code length k (2), at a place of the directory
 unfoldable pub headAt : List ℕ → ℕ → Class
 headAt b d =

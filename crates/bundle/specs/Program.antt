@@ -4,7 +4,7 @@ use Prim.Native.Nat.{ℕ}
 use Rattle.ground.specs.Bytes.{at}
 use Rattle.instructions.specs.declared.Instruction.{Instruction}
 use Rattle.bundle.specs.declared.Class.{Class}
-use Rattle.bundle.specs.Container.{classes, classAt, partOf, instructionAt}
+use Rattle.bundle.specs.Container.{classes, exception, classAt, partOf, instructionAt}
 
 -- n arguments, V variables, stack limit K, k addresses; argument i's descriptor (255 is Int, otherwise a class); address l's instruction
 pub record Method : Type 0 where
@@ -15,8 +15,10 @@ pub record Method : Type 0 where
   pub descriptor : ℕ → ℕ
   pub instruction : ℕ → Instruction
 
+-- the class count, the exception class and each class's method
 pub record Program : Type 0 where
   pub classes : ℕ
+  pub exception : ℕ
   pub method : ℕ → Method
 
 -- the method that a record is
@@ -36,4 +38,4 @@ methodAt b c = let k = classAt b c in methodOf k (partOf b k)
 
 -- the program that a bundle is
 unfoldable pub programOf : List ℕ → Program
-programOf b = record { classes = classes b; method = methodAt b }
+programOf b = record { classes = classes b; exception = exception b; method = methodAt b }

@@ -3,7 +3,7 @@ ghost use mathlib.Core.Path.{_≡_};
 ghost use Prim.Native.Nat.{_+_, _*_, _<_, _≤_};
 ghost use lib.ListN.{length};
 ghost use Rattle.ground.specs.Bytes.{at};
-ghost use Rattle.bundle.specs.Container.{directoryAt, classes, headAt, classAt, width, size, recordFits, partOf, codeFrom, noCode, instructionPlace, codeAt, instructionAt};
+ghost use Rattle.bundle.specs.Container.{directoryAt, classes, exception, headAt, classAt, width, size, recordFits, partOf, codeFrom, noCode, instructionPlace, codeAt, instructionAt};
 use instructions::Addr;
 use instructions::Code;
 use instructions::Instruction;
@@ -28,6 +28,13 @@ pub fn classes(b: &[u8]) -> u8
     ensures { λ r. ⌜ r ≡ classes (now (b .entry)) ⌝ }
 {
     ground::byte(b, ground::back(b, 6))
+}
+
+// The class of what a failed new throws, and of all that athrow may throw.
+pub fn exception(b: &[u8]) -> u8
+    ensures { λ r. ⌜ r ≡ exception (now (b .entry)) ⌝ }
+{
+    ground::byte(b, ground::back(b, 5))
 }
 
 fn head_at(b: &[u8], d: usize) -> Class

@@ -97,9 +97,46 @@ twoThreads =
     ++ (0 ∷ 168 ∷ 1 ∷ 1 ∷ 0 ∷ 0 ∷ 0 ∷ 3 ∷ [])
     ++ (0 ∷ 196 ∷ 2 ∷ 0 ∷ 0 ∷ 220 ∷ 76 ∷ 75 ∷ [])
 
+-- 1 new 0, handler 4; 2 pop; 3 return; 4 store 0; 5 monitorenter 0; 6 monitorexit 0; 7 load 0; 8 athrow, no handler (V 1, K 1)
+abbrev pub caughtNew : List ℕ
+caughtNew =
+    i 9 0 4 ++ i 2 0 0 ++ i 12 0 0 ++ i 5 0 0 ++ i 7 0 0 ++ i 8 0 0 ++ i 4 0 0 ++ i 11 0 0
+    ++ row top 0 none
+    ++ row top 1 (free 0)
+    ++ row top 0 none
+    ++ row top 1 (free 0)
+    ++ row (free 0) 0 none
+    ++ row (owing 0) 0 none
+    ++ row (free 0) 0 none
+    ++ row (free 0) 1 (free 0)
+    ++ (0 ∷ 0 ∷ 0 ∷ 1 ∷ 1 ∷ 0 ∷ 0 ∷ 8 ∷ [])
+    ++ (0 ∷ 104 ∷ 1 ∷ 0 ∷ 0 ∷ 120 ∷ 76 ∷ 75 ∷ [])
+
+-- a row of one variable and two stack entries
+abbrev pub double : List ℕ → ℕ → List ℕ → List ℕ → List ℕ
+double variable depth first second = variable ++ (depth ∷ first ++ second)
+
+-- 1 new 0; 2 store 0; 3 monitorenter 0; 4 push0; 5 load 0; 6 athrow, handler 7; 7 store 0; 8 monitorexit 0; 9 return (V 1, K 2): what is thrown is locked, and its pair goes with it
+abbrev pub caughtThrow : List ℕ
+caughtThrow =
+    i 9 0 0 ++ i 5 0 0 ++ i 7 0 0 ++ i 3 0 0 ++ i 4 0 0 ++ i 11 0 7 ++ i 5 0 0 ++ i 8 0 0 ++ i 12 0 0
+    ++ double top 0 none none
+    ++ double top 1 (free 0) none
+    ++ double (free 0) 0 none none
+    ++ double (owing 0) 0 none none
+    ++ double (owing 0) 1 int none
+    ++ double (free 0) 2 (owing 0) int
+    ++ double (free 0) 1 (owing 0) none
+    ++ double (owing 0) 0 none none
+    ++ double (free 0) 0 none none
+    ++ (0 ∷ 0 ∷ 0 ∷ 1 ∷ 2 ∷ 0 ∷ 0 ∷ 9 ∷ [])
+    ++ (0 ∷ 153 ∷ 1 ∷ 0 ∷ 0 ∷ 169 ∷ 76 ∷ 75 ∷ [])
+
 -- case A: thread 0 takes the lock, falls through, gives it back and ends;
 -- A with an inc: it takes the other arm and ends too;
--- two threads: the second waits (3) while the first holds, then goes on; both end
+-- two threads: the second waits (3) while the first holds, then goes on; both end;
+-- a failed new is caught, the caught object is locked, given back and thrown again, and the thread ends uncaught (2);
+-- a locked object is thrown, caught, and given back
 abbrev pub runs : List Run
 runs =
     record { bundle = caseA; schedule = main 7; wanted = 0 ∷ 0 ∷ 0 ∷ 0 ∷ 0 ∷ 0 ∷ 1 ∷ [] }
@@ -109,4 +146,6 @@ runs =
       schedule = main 6 ++ (by 1 ∷ by 0 ∷ by 1 ∷ by 0 ∷ by 1 ∷ by 1 ∷ []);
       wanted = 0 ∷ 0 ∷ 0 ∷ 0 ∷ 0 ∷ 0 ∷ 3 ∷ 0 ∷ 0 ∷ 1 ∷ 0 ∷ 1 ∷ [];
     }
+    ∷ record { bundle = caughtNew; schedule = failing 0 ∷ main 5; wanted = 0 ∷ 0 ∷ 0 ∷ 0 ∷ 0 ∷ 2 ∷ [] }
+    ∷ record { bundle = caughtThrow; schedule = main 9; wanted = 0 ∷ 0 ∷ 0 ∷ 0 ∷ 0 ∷ 0 ∷ 0 ∷ 0 ∷ 1 ∷ [] }
     ∷ []

@@ -2,16 +2,17 @@
 use mathlib.Core.List.{List, [], _∷_, _++_}
 use mathlib.Core.Bool.{Bool, true, _&&_}
 use Prim.Native.Nat.{ℕ, _-_}
-use lib.Dec.{leb}
+use lib.Dec.{leb, eqb}
 use Rattle.ground.specs.Bounded.{allBelow}
 use Rattle.bundle.specs.Container.{classes, classAt, partOf}
-use Rattle.entries.specs.Entries.{Ref, Entry, noEnd, endOf, isInt, isReference}
-use Rattle.entries.specs.Fits.{takes, Want}
+use Rattle.entries.specs.Entries.{Entry, endOf, isInt, isReference, isOf}
+use Rattle.entries.specs.Fits.{mayGo, takes, Want}
 use Rattle.rows.specs.Rows.{Row, rowAt}
-use Rattle.matching.specs.Matching.{popped, pushed, stored, wants, wantsAt, edge, stackGoes}
+use Rattle.matching.specs.Matching.{popped, pushed, stored, emptied, wants, wantsAt, edge, varsGo, stackGoes}
 use Rattle.rules.specs.Rule.{Rule, rule, holds}
+use Rattle.rules.specs.Rules.{uncaughtGoes, thrown, made}
 use Rattle.machine.specs.Runs.{Step}
-use Rattle.examples.specs.Runs.{failing, main, i, top, int, none, free, owing, row}
+use Rattle.examples.specs.Runs.{failing, main, i, top, int, none, free, owing, row, double}
 
 -- row l of class 0
 abbrev at : List ℕ → ℕ → Row
@@ -28,7 +29,7 @@ ifOneArm x y = rule (leb 1 (x .depth) && isInt (x .stack 0)) (edge (popped 1 x) 
 
 -- a failed new without handler that skips the rule for variables
 abbrev newSkips : ℕ → Row → Row → Rule
-newSkips c x y = rule (stackGoes x) (edge (pushed (Ref c 0 noEnd) x) (wants y) ∷ [])
+newSkips c x y = rule (stackGoes x) (edge (pushed (made c) x) (wants y) ∷ [])
 
 -- store that doesn't ask the old variable to go
 abbrev storeDrops : ℕ → Row → Row → Rule
@@ -48,9 +49,46 @@ wantLeftFree y = record { kind = takes y; dip = 0; end = endOf y - 1 }
 abbrev exitWithoutDip : ℕ → Row → Row → Rule
 exitWithoutDip v x y = rule (isReference (x .variable v)) (edge x (wantsAt v (wantLeftFree (y .variable v)) y) ∷ [])
 
--- ---- the bundles: V 1, K 1, but for the first, V 2, K 1
+-- ---- .. of the throws (document 02, Q-6), X being class 0 and the handler's row z
+-- a handler whose row has depth 0
+abbrev newToEmpty : ℕ → Row → Row → Row → Rule
+newToEmpty c x y z = rule (stackGoes x) (edge (pushed (made c) x) (wants y) ∷ edge (emptied x) (wants z) ∷ [])
+
+-- a handler whose row has depth 1 or more
+abbrev newToDeeper : ℕ → Row → Row → Row → Rule
+newToDeeper c x y z =
+    rule (stackGoes x && leb 1 (z .depth))
+    (edge (pushed (made c) x) (wants y) ∷ edge (pushed (made 0) (emptied x)) (wants (record { variable = z .variable; depth = 1; stack = z .stack })) ∷ [])
+
+-- the handler's only entry not compared
+abbrev newToAny : ℕ → Row → Row → Row → Rule
+newToAny c x y z = rule (stackGoes x && eqb (z .depth) 1) (edge (pushed (made c) x) (wants y) ∷ edge (emptied x) (wants (emptied z)) ∷ [])
+
+-- athrow of any class
+abbrev throwAny : ℕ → ℕ → Row → Row → Rule
+throwAny vars h x z =
+    rule (leb 1 (x .depth) && isReference (x .stack 0) && stackGoes (popped 1 x) && uncaughtGoes vars h (x .stack 0) x) (thrown h (x .stack 0) x z)
+
+-- with a handler, the rest of the stack need not go
+abbrev throwKeepsRest : ℕ → Row → Row → Rule
+throwKeepsRest h x z = rule (leb 1 (x .depth) && isOf 0 (x .stack 0)) (thrown h (x .stack 0) x z)
+
+-- with none, the top, the rest, or the variables need not go
+abbrev endsWithTop : ℕ → Row → Rule
+endsWithTop vars x = rule (leb 1 (x .depth) && isOf 0 (x .stack 0) && stackGoes (popped 1 x) && varsGo vars x) []
+
+abbrev endsWithRest : ℕ → Row → Rule
+endsWithRest vars x = rule (leb 1 (x .depth) && isOf 0 (x .stack 0) && mayGo (x .stack 0) && varsGo vars x) []
+
+abbrev endsWithVars : Row → Rule
+endsWithVars x = rule (leb 1 (x .depth) && isOf 0 (x .stack 0) && stackGoes x) []
+
+-- ---- the bundles: V 1, K 1, but for the first, V 2, K 1, and where K 2 is said
 abbrev one : ℕ → ℕ → ℕ → List ℕ
 one offset k length = (0 ∷ 0 ∷ 0 ∷ 1 ∷ 1 ∷ 0 ∷ 0 ∷ k ∷ []) ++ (0 ∷ offset ∷ 1 ∷ 0 ∷ 0 ∷ length ∷ 76 ∷ 75 ∷ [])
+
+abbrev oneOf2 : ℕ → ℕ → ℕ → List ℕ
+oneOf2 offset k length = (0 ∷ 0 ∷ 0 ∷ 1 ∷ 2 ∷ 0 ∷ 0 ∷ k ∷ []) ++ (0 ∷ offset ∷ 1 ∷ 0 ∷ 0 ∷ length ∷ 76 ∷ 75 ∷ [])
 
 -- 1 new 0; 2 store 0; 3 monitorenter 0; 4 load 0; 5 store 1; 6 monitorexit 0; 7 monitorexit 1; 8 return
 abbrev two : List ℕ → List ℕ → ℕ → List ℕ → List ℕ
@@ -110,6 +148,67 @@ kept = locks ++ i 12 0 0 ++ locked ++ one 52 4 68
 abbrev unheld : List ℕ
 unheld = i 9 0 0 ++ i 5 0 0 ++ i 8 0 0 ++ i 12 0 0 ++ row top 0 none ++ row top 1 (free 0) ++ row (free 0) 0 none ++ row (free 0) 0 none ++ one 52 4 68
 
+-- 1 new 0, handler 4; 2 pop; 3 return: the beginning of those that catch
+abbrev catches : List ℕ
+catches = i 9 0 4 ++ i 2 0 0 ++ i 12 0 0
+
+abbrev caught : List ℕ
+caught = row top 0 none ++ row top 1 (free 0) ++ row top 0 none
+
+-- .. 4 push0; 5 pop; 6 return: no room for the push
+abbrev toEmpty : List ℕ
+toEmpty = catches ++ i 3 0 0 ++ i 2 0 0 ++ i 12 0 0 ++ caught ++ row top 0 none ++ row top 1 int ++ row top 0 none ++ one 78 6 94
+
+-- .. 4 pop; 5 pop; 6 return (K 2): nothing for the second pop
+abbrev toDeeper : List ℕ
+toDeeper =
+    catches ++ i 2 0 0 ++ i 2 0 0 ++ i 12 0 0
+    ++ double top 0 none none
+    ++ double top 1 (free 0) none
+    ++ double top 0 none none
+    ++ double top 2 (free 0) (free 0)
+    ++ double top 1 (free 0) none
+    ++ double top 0 none none
+    ++ oneOf2 102 6 118
+
+-- .. 4 store 0; 5 monitorexit 0; 6 return: the caught object isn't held
+abbrev toAny : List ℕ
+toAny = catches ++ i 5 0 0 ++ i 8 0 0 ++ i 12 0 0 ++ caught ++ row top 1 (owing 0) ++ row (owing 0) 0 none ++ row (free 0) 0 none ++ one 78 6 94
+
+-- 1 new 0; 2 athrow, no handler: X is class 1, which has the same record
+abbrev otherClass : List ℕ
+otherClass =
+    i 9 0 0 ++ i 11 0 0 ++ row top 0 none ++ row top 1 (free 0)
+    ++ (0 ∷ 0 ∷ 0 ∷ 1 ∷ 1 ∷ 0 ∷ 0 ∷ 2 ∷ []) ++ (0 ∷ 0 ∷ 0 ∷ 1 ∷ 1 ∷ 0 ∷ 0 ∷ 2 ∷ []) ++ (0 ∷ 26 ∷ 2 ∷ 1 ∷ 0 ∷ 50 ∷ 76 ∷ 75 ∷ [])
+
+-- 1 new 0; 2 store 0; 3 monitorenter 0; 4 load 0; 5 load 0 (K 2): the lock goes with the lower entry
+abbrev below : List ℕ
+below = locks ++ i 4 0 0 ++ i 4 0 0
+
+abbrev belowRows : List ℕ
+belowRows =
+    double top 0 none none
+    ++ double top 1 (free 0) none
+    ++ double (free 0) 0 none none
+    ++ double (owing 0) 0 none none
+    ++ double (free 0) 1 (owing 0) none
+    ++ double (free 0) 2 (free 0) (owing 0)
+
+-- .. 6 athrow, handler 7; 7 pop; 8 return
+abbrev restKept : List ℕ
+restKept = below ++ i 11 0 7 ++ i 2 0 0 ++ i 12 0 0 ++ belowRows ++ double (free 0) 1 (free 0) none ++ double (free 0) 0 none none ++ oneOf2 136 8 152
+
+-- .. 6 athrow, no handler
+abbrev restEnds : List ℕ
+restEnds = below ++ i 11 0 0 ++ belowRows ++ oneOf2 102 6 118
+
+-- 1 new 0; 2 store 0; 3 monitorenter 0; 4 load 0; 5 athrow, no handler: the lock goes with the top, or stays with the variable
+abbrev topEnds : List ℕ
+topEnds = locks ++ i 4 0 0 ++ i 11 0 0 ++ locked ++ row (free 0) 1 (owing 0) ++ one 65 5 81
+
+abbrev varEnds : List ℕ
+varEnds = locks ++ i 4 0 0 ++ i 11 0 0 ++ locked ++ row (owing 0) 1 (free 0) ++ one 65 5 81
+
 -- what the weakened rule says at the address, where document 01's verdict is 9 with this why; and the answers of a schedule
 pub record Slip : Type 0 where
   pub bundle : List ℕ
@@ -127,4 +226,12 @@ slips =
     ∷ record { bundle = dropped; address = 5; why = 0; weakened = holds 1 (storeDrops 0 (at dropped 5) (at dropped 6)); schedule = main 6; wanted = 0 ∷ 0 ∷ 0 ∷ 0 ∷ 0 ∷ 15 ∷ [] }
     ∷ record { bundle = kept; address = 4; why = 0; weakened = holds 1 (returnAtMinusOne 1 (at kept 4)); schedule = main 4; wanted = 0 ∷ 0 ∷ 0 ∷ 15 ∷ [] }
     ∷ record { bundle = unheld; address = 3; why = 2; weakened = holds 1 (exitWithoutDip 0 (at unheld 3) (at unheld 4)); schedule = main 3; wanted = 0 ∷ 0 ∷ 14 ∷ [] }
+    ∷ record { bundle = toEmpty; address = 1; why = 0; weakened = holds 1 (newToEmpty 0 (at toEmpty 1) (at toEmpty 2) (at toEmpty 4)); schedule = failing 0 ∷ main 1; wanted = 0 ∷ 12 ∷ [] }
+    ∷ record { bundle = toDeeper; address = 1; why = 0; weakened = holds 1 (newToDeeper 0 (at toDeeper 1) (at toDeeper 2) (at toDeeper 4)); schedule = failing 0 ∷ main 2; wanted = 0 ∷ 0 ∷ 11 ∷ [] }
+    ∷ record { bundle = toAny; address = 1; why = 2; weakened = holds 1 (newToAny 0 (at toAny 1) (at toAny 2) (at toAny 4)); schedule = failing 0 ∷ main 2; wanted = 0 ∷ 0 ∷ 14 ∷ [] }
+    ∷ record { bundle = otherClass; address = 2; why = 0; weakened = holds 1 (throwAny 1 0 (at otherClass 2) (at otherClass 2)); schedule = main 2; wanted = 0 ∷ 13 ∷ [] }
+    ∷ record { bundle = restKept; address = 6; why = 0; weakened = holds 1 (throwKeepsRest 7 (at restKept 6) (at restKept 7)); schedule = main 8; wanted = 0 ∷ 0 ∷ 0 ∷ 0 ∷ 0 ∷ 0 ∷ 0 ∷ 15 ∷ [] }
+    ∷ record { bundle = topEnds; address = 5; why = 0; weakened = holds 1 (endsWithTop 1 (at topEnds 5)); schedule = main 5; wanted = 0 ∷ 0 ∷ 0 ∷ 0 ∷ 15 ∷ [] }
+    ∷ record { bundle = restEnds; address = 6; why = 0; weakened = holds 1 (endsWithRest 1 (at restEnds 6)); schedule = main 6; wanted = 0 ∷ 0 ∷ 0 ∷ 0 ∷ 0 ∷ 15 ∷ [] }
+    ∷ record { bundle = varEnds; address = 5; why = 0; weakened = holds 1 (endsWithVars (at varEnds 5)); schedule = main 5; wanted = 0 ∷ 0 ∷ 0 ∷ 0 ∷ 15 ∷ [] }
     ∷ []

@@ -27,6 +27,8 @@ module _ (P : Program) (s : State) (h : Belongs P s) where
   thread-belongs i u p c =
       record {
         live-placed = λ j l. write-or (λ (t : Thread). t .live ≡ true → Placed P (s .objects) t) (s .threads) i j u idle (h .live-placed j l) (λ q. p);
+        some-object = h .some-object;
+        first-class = h .first-class;
         objects-32 = h .objects-32;
         object-class = h .object-class;
         counted = λ j o l k. write-or (λ (t : Thread). Counted (s .objects) (t .live) o (countOf (s .counts) j o)) (s .threads) i j u idle (h .counted j o l k) (λ q. at j o k q (h .counted j o l k));
@@ -43,6 +45,8 @@ module _ (P : Program) (s : State) (h : Belongs P s) where
   count-belongs i o n l b a m others =
       record {
         live-placed = h .live-placed;
+        some-object = h .some-object;
+        first-class = h .first-class;
         objects-32 = h .objects-32;
         object-class = h .object-class;
         counted = λ j p e f. write-or (λ (k : ℕ). Counted (s .objects) (threadAt s j .live) p k) (s .counts) (i * 32 + o) (j * 32 + p) n 0 (h .counted j p e f) (λ q. at j p f q);
@@ -78,6 +82,8 @@ module _ (P : Program) (s : State) (h : Belongs P s) where
   object-belongs c b l =
       record {
         live-placed = λ i e a. placed-more P (s .objects) (threadAt s i) (h .live-placed i e a);
+        some-object = omega arith;
+        first-class = getD-set-other (s .classes) (s .objects) 0 c 0 (λ q. omega (arith, h .some-object)) ∙ h .first-class;
         objects-32 = omega arith;
         object-class = λ o e. write-in (λ (k : ℕ). k < P .classes) (s .classes) (s .objects) o c 0 (omega arith) (λ q. b) (λ q. h .object-class o (omega arith));
         counted = λ i o e f. more i o (h .counted i o e f);

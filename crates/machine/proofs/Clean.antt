@@ -14,17 +14,19 @@ use Rattle.instructions.specs.declared.Var.{Var}
 use Rattle.instructions.specs.declared.Instruction.{Instruction}
 use Rattle.instructions.specs.declared.Instruction.the-variants.{Inc, Pop, Push0, Load, Store, If, Enter, Exit, New, Start, Throw, Return, Nothing}
 use Rattle.instructions.specs.Table.{tableOk, instructionOk}
+use Rattle.bundle.specs.Container.{exception}
 use Rattle.bundle.specs.Program.{Method, Program, programOf}
 use Rattle.structure.proofs.Structured.{WellFormed}
+use Rattle.values.specs.declared.Slot.{Slot}
 use Rattle.values.specs.Values.{zeroSlot, refSlot, objectOf, incSlot, jumps}
 use Rattle.threads.specs.declared.Thread.{Thread}
-use Rattle.threads.specs.Threads.{idle, topOf, varOf, started}
+use Rattle.threads.specs.Threads.{idle, topOf, varOf, popped, started}
 use Rattle.state.specs.declared.State.{State}
 use Rattle.state.specs.State.{threadAt, withThread, withCount, withObject, emptyState, notLive, lowestFree}
 use Rattle.belongs.proofs.Belongs.{Belongs, belongs-elim}
 use Rattle.machine.specs.declared.Stepped.{Stepped}
 use Rattle.machine.specs.Answers.{refused, wentTo, wentOn}
-use Rattle.machine.specs.Instructions.{incStep, popStep, push0Step, loadStep, storeStep, ifStep, enterObject, enterStep, exitObject, exitStep, endStep, throwStep, makeStep, newStep, startedBy, startStep}
+use Rattle.machine.specs.Instructions.{incStep, popStep, push0Step, loadStep, storeStep, ifStep, enterObject, enterStep, exitObject, exitStep, endStep, throwStep, athrowStep, makeStep, newStep, startedBy, startStep}
 use Rattle.machine.specs.Machine.{mainThread, execOf, runOf, stepOf, freshOf}
 use Rattle.machine.specs.Runs.{Step, after, run, reached}
 use Rattle.machine.proofs.Ready.{formed}
@@ -118,9 +120,15 @@ module _ (P : Program) (s : State) (h : Clean P s) (i : ℕ) (t : Thread) (p : C
   unfolding endStep
   end-clean n = unless s h _ _ _ (λ e. record { cleans = thread-clean P s h i _ (ended-clean P (t .class) t p) })
 
-  throw-clean : (a : Addr) → Cleans P (throwStep s i t (method .vars) a)
+  throw-clean : (limit : ℕ) (a : Addr) (x : Slot) → Cleans P (throwStep s i t limit (method .vars) a x)
   unfolding throwStep
-  throw-clean a = either (eqb (a .0) 0) _ _ (end-clean 2) (goes s h _ (popped-clean P (t .class) t p (t .depth)) _)
+  throw-clean limit a x =
+      either (eqb (a .0) 0) _ _ (end-clean 2)
+      (unless s h _ _ _ (λ e. goes s h _ (pushed-clean P (t .class) (popped (t .depth) t) (popped-clean P (t .class) t p (t .depth)) x) _))
+
+  athrow-clean : (exception limit : ℕ) (a : Addr) → Cleans P (athrowStep s i t exception limit (method .vars) a)
+  unfolding athrowStep
+  athrow-clean exception limit a = unless s h _ _ _ (λ e. unless s h _ _ _ (λ f. throw-clean limit a (topOf t)))
 
   make-clean : (limit k : ℕ) → Cleans P (makeStep s i t limit k)
   unfolding makeStep
@@ -128,7 +136,7 @@ module _ (P : Program) (s : State) (h : Clean P s) (i : ℕ) (t : Thread) (p : C
 
   new-clean : (limit k : ℕ) (a : Addr) (fails : Bool) → Cleans P (newStep s i t limit (method .vars) k a fails)
   unfolding newStep
-  new-clean limit k a fails = either (fails || leb 32 (s .objects)) _ _ (throw-clean a) (make-clean limit k)
+  new-clean limit k a fails = either (fails || leb 32 (s .objects)) _ _ (throw-clean limit a (refSlot 0)) (make-clean limit k)
 
   start-clean : (k args : ℕ) (descriptor : ℕ → ℕ) → args ≤ P .method k .vars → Cleans P (startStep s i t args descriptor k)
   unfolding startStep startedBy
@@ -152,7 +160,7 @@ module _ (P : Program) (s : State) (h : Clean P s) (i : ℕ) (t : Thread) (p : C
   arm-clean wf fails (Exit v) e = exit-clean v
   arm-clean wf fails (New k a) e = new-clean (method .limit) k a fails
   arm-clean wf fails (Start k) e = start-clean k (P .method k .args) (P .method k .descriptor) (wf .args-vars k (ltb-true _ _ e))
-  arm-clean wf fails (Throw a) e = throw-clean a
+  arm-clean wf fails (Throw a) e = athrow-clean (P .exception) (method .limit) a
   arm-clean wf fails Return e = end-clean 1
   arm-clean wf fails Nothing e = never e refl
 
@@ -195,7 +203,7 @@ fresh-clean b = made .cleans
     made : Cleans (programOf b) (freshOf b)
     made =
         unless emptyState (empty-clean (programOf b)) _ _ _ (λ e.
-        record { cleans = thread-clean (programOf b) emptyState (empty-clean (programOf b)) 0 mainThread (main-clean (programOf b)) })
+        record { cleans = thread-clean (programOf b) (withObject emptyState (exception b)) (object-clean (programOf b) emptyState (empty-clean (programOf b)) (exception b)) 0 mainThread (main-clean (programOf b)) })
 
 -- ---- a list of steps
 -- THEOREM: where every place out of use is integer 0, it is so after any list of steps.

@@ -1,4 +1,4 @@
--- THEOREM: a fresh machine has a state of the bundle.
+-- THEOREM: a fresh machine has a state of the bundle, where it can be read.
 use mathlib.Core.Path.{_≡_, refl}
 use mathlib.Core.Bool.{true}
 use mathlib.Core.List.{List}
@@ -6,17 +6,18 @@ use Prim.Native.Nat.{ℕ, _+_, _*_, _<_}
 use native.Mathlib.Omega.{arith}
 use lib.ListN.{getD-replicate}
 use Rattle.ground.proofs.Bools.{never}
+use Rattle.ground.specs.Chain.{refuse}
+use Rattle.bundle.specs.Container.{exception}
 use Rattle.bundle.specs.Program.{Program, programOf}
 use Rattle.structure.proofs.Structured.{WellFormed}
 use Rattle.values.specs.Values.{zeroSlot}
 use Rattle.threads.specs.Threads.{idle}
-use Rattle.state.specs.State.{threadAt, countOf, emptyState}
+use Rattle.state.specs.State.{threadAt, countOf, withObject, emptyState}
 use Rattle.belongs.specs.Belongs.{stateOk}
 use Rattle.belongs.proofs.Belongs.{Placed, Belongs, belongs-intro}
-use Rattle.machine.specs.Machine.{mainThread, freshOf}
+use Rattle.machine.specs.Machine.{mainThread, freshState, readable, freshOf}
 use Rattle.machine.proofs.Ready.{formed}
-use Rattle.machine.proofs.Changes.{thread-belongs}
-use Rattle.machine.proofs.Stays.{Stays, unless}
+use Rattle.machine.proofs.Changes.{grown, thread-belongs}
 
 empty-thread : (i : ℕ) → i < 8 → threadAt emptyState i ≡ idle
 empty-thread i l = getD-replicate 8 i idle idle l
@@ -24,17 +25,20 @@ empty-thread i l = getD-replicate 8 i idle idle l
 empty-count : (i o : ℕ) → i < 8 → o < 32 → countOf (emptyState .counts) i o ≡ 0
 empty-count i o l k = getD-replicate 256 (i * 32 + o) 0 0 (omega arith)
 
-empty-belongs : (P : Program) → Belongs P emptyState
-empty-belongs P =
+-- object 0 alone, and no live thread
+one-belongs : (P : Program) → WellFormed P → Belongs P (grown emptyState (P .exception))
+one-belongs P wf =
     record {
       live-placed = λ i l a. never (rw (empty-thread i l) at a) refl;
+      some-object = omega arith;
+      first-class = refl;
       objects-32 = omega arith;
-      object-class = λ o l. absurd (omega arith);
+      object-class = λ o l. let q : o ≡ 0 = omega arith in rw q (wf .exception);
       counted = λ i o l k. rw (empty-count i o l k) (record { count-2047 = omega arith; on-object = λ n. absurd (omega arith); by-live = λ n. absurd (omega arith) });
       one-holder = λ i j o l k m a b. absurd (omega (arith, empty-count i o l m));
     }
 
-fresh-placed : (P : Program) → WellFormed P → Placed P 0 mainThread
+fresh-placed : (P : Program) → WellFormed P → Placed P 1 mainThread
 fresh-placed P wf =
     record {
       class-known = wf .some-class;
@@ -45,11 +49,10 @@ fresh-placed P wf =
       stack-refers = λ q l. absurd (omega arith);
     }
 
-pub fresh-belongs : (b : List ℕ) → stateOk (programOf b) (freshOf b .state) ≡ true
-unfolding freshOf
-fresh-belongs b = belongs-intro (programOf b) (freshOf b .state) (made .stays)
-  where
-    made : Stays (programOf b) (freshOf b)
-    made =
-        unless emptyState (empty-belongs (programOf b)) _ _ _ (λ e.
-        record { stays = thread-belongs (programOf b) emptyState (empty-belongs (programOf b)) 0 mainThread (λ a. fresh-placed (programOf b) (formed b e)) (λ o l n. refl) })
+-- (with 17 there is no object, and so no state of the bundle)
+pub fresh-belongs : (b : List ℕ) → readable b ≡ true → stateOk (programOf b) (freshOf b .state) ≡ true
+unfolding freshOf refuse withObject programOf
+fresh-belongs b e =
+    rw e
+    (belongs-intro (programOf b) (freshState (exception b))
+    (thread-belongs (programOf b) (grown emptyState (exception b)) (one-belongs (programOf b) (formed b e)) 0 mainThread (λ a. fresh-placed (programOf b) (formed b e)) (λ o l n. refl)))

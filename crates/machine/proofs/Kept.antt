@@ -11,14 +11,15 @@ use Rattle.instructions.specs.declared.Var.{Var}
 use Rattle.instructions.specs.declared.Instruction.{Instruction}
 use Rattle.instructions.specs.declared.Instruction.the-variants.{Inc, Pop, Push0, Load, Store, If, Enter, Exit, New, Start, Throw, Return, Nothing}
 use Rattle.bundle.specs.Program.{Method, Program, programOf}
-use Rattle.values.specs.Values.{jumps}
+use Rattle.values.specs.declared.Slot.{Slot}
+use Rattle.values.specs.Values.{refSlot, jumps}
 use Rattle.threads.specs.declared.Thread.{Thread}
 use Rattle.threads.specs.Threads.{topOf}
 use Rattle.state.specs.declared.State.{State}
 use Rattle.state.specs.State.{threadAt}
 use Rattle.machine.specs.declared.Stepped.{Stepped}
 use Rattle.machine.specs.Answers.{refused}
-use Rattle.machine.specs.Instructions.{incStep, popStep, push0Step, loadStep, storeStep, ifStep, enterObject, enterStep, exitObject, exitStep, endStep, throwStep, makeStep, newStep, startedBy, startStep}
+use Rattle.machine.specs.Instructions.{incStep, popStep, push0Step, loadStep, storeStep, ifStep, enterObject, enterStep, exitObject, exitStep, endStep, throwStep, athrowStep, makeStep, newStep, startedBy, startStep}
 use Rattle.machine.specs.Machine.{execOf, runOf, stepOf}
 
 pub record Kept (s : State) (r : Stepped) : Type 0 where
@@ -80,13 +81,17 @@ module _ (s : State) (i : ℕ) (t : Thread) where
   unfolding endStep
   end-kept vars n l = unless _ _ _ (fine l)
 
-  throw-kept : (vars : ℕ) (h : Addr) → Kept s (throwStep s i t vars h)
+  throw-kept : (limit vars : ℕ) (h : Addr) (x : Slot) → Kept s (throwStep s i t limit vars h x)
   unfolding throwStep
-  throw-kept vars h = either (eqb (h .0) 0) _ _ (end-kept vars 2 (omega arith)) (went _)
+  throw-kept limit vars h x = either (eqb (h .0) 0) _ _ (end-kept vars 2 (omega arith)) (unless _ _ _ (went _))
+
+  athrow-kept : (exception limit vars : ℕ) (h : Addr) → Kept s (athrowStep s i t exception limit vars h)
+  unfolding athrowStep
+  athrow-kept exception limit vars h = unless _ _ _ (unless _ _ _ (throw-kept limit vars h (topOf t)))
 
   new-kept : (limit vars c : ℕ) (h : Addr) (fails : Bool) → Kept s (newStep s i t limit vars c h fails)
   unfolding newStep makeStep
-  new-kept limit vars c h fails = either (fails || leb 32 (s .objects)) _ _ (throw-kept vars h) (unless _ _ _ (went _))
+  new-kept limit vars c h fails = either (fails || leb 32 (s .objects)) _ _ (throw-kept limit vars h (refSlot 0)) (unless _ _ _ (went _))
 
   start-kept : (args : ℕ) (descriptor : ℕ → ℕ) (c : ℕ) → Kept s (startStep s i t args descriptor c)
   unfolding startStep startedBy
@@ -103,7 +108,7 @@ module _ (s : State) (i : ℕ) (t : Thread) where
   exec-kept P m fails (Exit v) = exit-kept v
   exec-kept P m fails (New c h) = new-kept (m .limit) (m .vars) c h fails
   exec-kept P m fails (Start c) = start-kept (P .method c .args) (P .method c .descriptor) c
-  exec-kept P m fails (Throw h) = throw-kept (m .vars) h
+  exec-kept P m fails (Throw h) = athrow-kept (P .exception) (m .limit) (m .vars) h
   exec-kept P m fails Return = end-kept (m .vars) 1 (omega arith)
   exec-kept P m fails Nothing = given 17
 

@@ -20,6 +20,7 @@ use Rattle.instructions.specs.declared.Instruction.the-variants.{Inc, Pop, Push
 use Rattle.instructions.specs.Table.{targetOk, tableOk, endsCode, lastOk, instructionOk}
 use Rattle.bundle.specs.Program.{Method, Program, programOf}
 use Rattle.structure.proofs.Structured.{WellFormed}
+use Rattle.values.specs.declared.Slot.{Slot}
 use Rattle.values.specs.Values.{zeroSlot, refSlot, isInt, objectOf, incSlot, jumps, refers}
 use Rattle.threads.specs.declared.Thread.{Thread}
 use Rattle.threads.specs.Threads.{entryOf, topOf, varOf, withAt, topped, pushed, popped, stored, ended, started}
@@ -29,7 +30,7 @@ use Rattle.belongs.specs.Belongs.{stateOk}
 use Rattle.belongs.proofs.Belongs.{Placed, Belongs, refers-object, belongs-elim, belongs-intro}
 use Rattle.machine.specs.declared.Stepped.{Stepped}
 use Rattle.machine.specs.Answers.{refused, wentTo, wentOn}
-use Rattle.machine.specs.Instructions.{incStep, popStep, push0Step, loadStep, storeStep, ifStep, enterObject, enterStep, exitObject, exitStep, endStep, throwStep, makeStep, newStep, startedBy, startStep}
+use Rattle.machine.specs.Instructions.{incStep, popStep, push0Step, loadStep, storeStep, ifStep, enterObject, enterStep, exitObject, exitStep, endStep, throwStep, athrowStep, makeStep, newStep, startedBy, startStep}
 use Rattle.machine.specs.Machine.{execOf, runOf, stepOf}
 use Rattle.machine.proofs.Ready.{formed}
 use Rattle.machine.proofs.Moved.{refers-inc, placed-more, Moved, unmoved, entry-refers, moved-topped, moved-pushed, moved-popped, moved-stored, moved-placed}
@@ -163,11 +164,18 @@ module _ (P : Program) (wf : WellFormed P) (s : State) (h : Belongs P s) (i : �
       unless s h _ _ _ (λ e.
       record { stays = thread-belongs P s h i (ended vars t) (λ a. never a refl) (λ o b c. absurd (omega (arith, eqb-true (countOf (s .counts) i o) 0 (all-elim (isFree (s .counts) i) 32 e o b)))) })
 
-  throw-stays : (vars : ℕ) (a : Addr) → a .0 ≤ method .code → Stays P (throwStep s i t vars a)
-  unfolding throwStep
-  throw-stays vars a g =
+  throw-stays : (vars : ℕ) (a : Addr) (x : Slot) → a .0 ≤ method .code → refers (s .objects) x ≡ true → Stays P (throwStep s i t (method .limit) vars a x)
+  unfolding throwStep popped
+  throw-stays vars a x g r =
       either (eqb (a .0) 0) _ _ (λ e. end-stays vars 2)
-      (λ e. goes s h (popped (t .depth) t) (moved-popped P (s .objects) t t as-was (t .depth)) (a .0) (omega (arith, eqb-false (a .0) 0 e)) g)
+      (λ e. unless s h _ _ _ (λ f.
+      goes s h (pushed (popped (t .depth) t) x)
+      (moved-pushed P (s .objects) t (popped (t .depth) t) (moved-popped P (s .objects) t t as-was (t .depth)) x r (omega (arith, leb-true 1 (method .limit) f)) (wf .limit-16 (t .class) (p .class-known)))
+      (a .0) (omega (arith, eqb-false (a .0) 0 e)) g))
+
+  athrow-stays : (vars : ℕ) (a : Addr) → a .0 ≤ method .code → Stays P (athrowStep s i t (P .exception) (method .limit) vars a)
+  unfolding athrowStep
+  athrow-stays vars a g = unless s h _ _ _ (λ e. unless s h _ _ _ (λ f. throw-stays vars a (topOf t) g (top-refers e)))
 
   make-stays : t .at .0 < method .code → (c : ℕ) → c < P .classes → s .objects < 32 → Stays P (makeStep s i t (method .limit) c)
   unfolding makeStep withObject
@@ -181,7 +189,7 @@ module _ (P : Program) (wf : WellFormed P) (s : State) (h : Belongs P s) (i : �
       → Stays P (newStep s i t (method .limit) vars c a fails)
   unfolding newStep
   new-stays k vars c b a g fails =
-      either (fails || leb 32 (s .objects)) _ _ (λ e. throw-stays vars a g) (λ e. make-stays k c b (leb-false 32 (s .objects) (or-false-snd fails _ e)))
+      either (fails || leb 32 (s .objects)) _ _ (λ e. throw-stays vars a (refSlot 0) g (lt-ltb 0 (s .objects) (omega (arith, h .some-object)))) (λ e. make-stays k c b (leb-false 32 (s .objects) (or-false-snd fails _ e)))
 
   started-placed : (old : Thread) (c args : ℕ) → c < P .classes → args ≤ P .method c .vars → args < t .depth → Placed P (s .objects) (started old t c args)
   unfolding started
@@ -241,7 +249,7 @@ module _ (P : Program) (wf : WellFormed P) (s : State) (h : Belongs P s) (i : �
       go (Exit v) e f = exit-stays a (next (Exit v) refl f) v (ltb-true _ _ e)
       go (New c b) e f = new-stays (next (New c b) refl f) (method .vars) c (ltb-true _ _ (and-fst (ltb c (P .classes)) _ e)) b (leb-true _ _ (and-snd (ltb c (P .classes)) _ e)) fails
       go (Start c) e f = start-stays (next (Start c) refl f) c (ltb-true _ _ e)
-      go (Throw b) e f = throw-stays (method .vars) b (leb-true _ _ e)
+      go (Throw b) e f = athrow-stays (method .vars) b (leb-true _ _ e)
       go Return e f = end-stays (method .vars) 1
       go Nothing e f = never e refl
 

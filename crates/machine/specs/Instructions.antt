@@ -71,21 +71,34 @@ endStep s i t vars n =
     unless (holdsNothing (s .counts) i) 15 s
     (record { answer = n; state = withThread s i (ended vars t) })
 
--- athrow and a failed new empty the stack and go to the handler; with none, the thread ends uncaught
-unfoldable pub throwStep : State → ℕ → Thread → ℕ → Addr → Stepped
-throwStep s i t vars h = cond (eqb (h .0) 0) (endStep s i t vars 2) (wentTo s i (popped (t .depth) t) (h .0))
+-- the stack emptied, and x alone on it
+abbrev pub caught : Thread → Slot → Thread
+caught t x = pushed (popped (t .depth) t) x
+
+-- x is thrown: the handler finds it alone on its stack, which must have room for it (12 where K is 0); with no handler, the thread ends uncaught (document 02, Q-6)
+unfoldable pub throwStep : State → ℕ → Thread → ℕ → ℕ → Addr → Slot → Stepped
+throwStep s i t limit vars h x =
+    cond (eqb (h .0) 0) (endStep s i t vars 2)
+    (unless (leb 1 limit) 12 s (wentTo s i (caught t x) (h .0)))
+
+-- an object of class c, where `classes` holds the class of each object
+abbrev pub isObject : List ℕ → ℕ → Slot → Bool
+isObject classes c x = not (isInt x) && eqb (at classes (objectOf x)) c
+
+-- athrow throws the top, a reference of the exception class (with K 0 there is no top, so 11 comes before 12)
+unfoldable pub athrowStep : State → ℕ → Thread → ℕ → ℕ → ℕ → Addr → Stepped
+athrowStep s i t exception limit vars h =
+    unless (has 1 t) 11 s
+    (unless (isObject (s .classes) exception (topOf t)) 13 s
+    (throwStep s i t limit vars h (topOf t)))
 
 -- a new that succeeds takes the next object number
 unfoldable pub makeStep : State → ℕ → Thread → ℕ → ℕ → Stepped
 makeStep s i t limit c = unless (room limit t) 12 s (wentOn (withObject s c) i t (pushed t (refSlot (s .objects))))
 
--- new fails when the step says so, or at 32 objects; a failed new pushes nothing, so it never draws 12
+-- new fails when the step says so, or at 32 objects; a failed new throws object 0
 unfoldable pub newStep : State → ℕ → Thread → ℕ → ℕ → ℕ → Addr → Bool → Stepped
-newStep s i t limit vars c h fails = cond (fails || leb 32 (s .objects)) (throwStep s i t vars h) (makeStep s i t limit c)
-
--- an object of class c, where `classes` holds the class of each object
-abbrev pub isObject : List ℕ → ℕ → Slot → Bool
-isObject classes c x = not (isInt x) && eqb (at classes (objectOf x)) c
+newStep s i t limit vars c h fails = cond (fails || leb 32 (s .objects)) (throwStep s i t limit vars h (refSlot 0)) (makeStep s i t limit c)
 
 -- an argument by its descriptor
 unfoldable pub isArgument : List ℕ → ℕ → Slot → Bool

@@ -7,24 +7,25 @@ use lib.ListN.{replicate}
 use Rattle.instructions.specs.Table.{addr}
 use Rattle.instructions.specs.declared.Instruction.{Instruction}
 use Rattle.instructions.specs.declared.Instruction.the-variants.{Inc, Pop, Push0, Load, Store, If, Enter, Exit, New, Start, Throw, Return, Nothing}
+use Rattle.bundle.specs.Container.{exception}
 use Rattle.bundle.specs.Program.{Method, Program, programOf}
 use Rattle.structure.specs.Structure.{structureOf}
 use Rattle.values.specs.Values.{zeroSlot}
 use Rattle.threads.specs.declared.Thread.{Thread}
 use Rattle.state.specs.declared.State.{State}
-use Rattle.state.specs.State.{threadAt, withThread, emptyState}
+use Rattle.state.specs.State.{threadAt, withThread, withObject, emptyState}
 use Rattle.belongs.specs.Belongs.{stateOk}
 use Rattle.machine.specs.declared.Stepped.{Stepped}
 use Rattle.machine.specs.Answers.{refused, unless}
-use Rattle.machine.specs.Instructions.{incStep, popStep, push0Step, loadStep, storeStep, ifStep, enterStep, exitStep, endStep, throwStep, newStep, startStep}
+use Rattle.machine.specs.Instructions.{incStep, popStep, push0Step, loadStep, storeStep, ifStep, enterStep, exitStep, endStep, athrowStep, newStep, startStep}
 
 -- thread 0 live at address 1 of class 0
 abbrev pub mainThread : Thread
 mainThread = record { live = true; class = 0; at = addr 1; depth = 0; vars = replicate 16 zeroSlot; stack = replicate 16 zeroSlot }
 
--- a fresh machine has thread 0 live at address 1 of class 0, no object, and all else 0
-abbrev pub freshState : State
-freshState = withThread emptyState 0 mainThread
+-- a fresh machine has thread 0 live at address 1 of class 0, object 0 of the exception class, and all else 0
+abbrev pub freshState : ℕ → State
+freshState exception = withThread (withObject emptyState exception) 0 mainThread
 
 -- the bundle draws none of verdicts 1 to 7 (else 17)
 abbrev pub readable : List ℕ → Bool
@@ -32,7 +33,7 @@ readable b = eqb (structureOf b .number) 0
 
 -- 0 with the fresh machine; 17 with no live thread, no object, and all else 0
 unfoldable pub freshOf : List ℕ → Stepped
-freshOf b = unless (readable b) 17 emptyState (record { answer = 0; state = freshState })
+freshOf b = unless (readable b) 17 emptyState (record { answer = 0; state = freshState (exception b) })
 
 -- an instruction of thread i, which is t and stands in the method m
 abbrev pub execOf : Program → State → ℕ → Thread → Method → Bool → Instruction → Stepped
@@ -46,7 +47,7 @@ execOf P s i t m fails (Enter v) = enterStep s i t v
 execOf P s i t m fails (Exit v) = exitStep s i t v
 execOf P s i t m fails (New c h) = newStep s i t (m .limit) (m .vars) c h fails
 execOf P s i t m fails (Start c) = startStep s i t (P .method c .args) (P .method c .descriptor) c
-execOf P s i t m fails (Throw h) = throwStep s i t (m .vars) h
+execOf P s i t m fails (Throw h) = athrowStep s i t (P .exception) (m .limit) (m .vars) h
 execOf P s i t m fails Return = endStep s i t (m .vars) 1
 execOf P s i t m fails Nothing = refused 17 s
 

@@ -54,7 +54,7 @@ pub fn fresh(b: &[u8]) -> Stepped
     }
     Stepped {
         answer: 0,
-        state: state::put_thread(s, 0, main_thread()),
+        state: state::put_thread(state::add_object(s, bundle::exception(b)), 0, main_thread()),
     }
 }
 
@@ -85,7 +85,15 @@ fn run(b: &[u8], s: State, i: u8, fails: bool) -> Stepped
         Instruction::Exit(v) => locks::exit_step(s, i, t, v),
         Instruction::New(c, h) => ends::new_step(s, i, t, k.limit, k.vars, c, h, fails),
         Instruction::Start(c) => starts::start_class(b, s, i, t, c),
-        Instruction::Throw(h) => moves::settle(s, i, ends::throw_turn(&s.counts, i, t, k.vars, h)),
+        Instruction::Throw(h) => ends::athrow_step(
+            s,
+            i,
+            t,
+            bundle::exception(b),
+            k.limit,
+            k.vars,
+            h,
+        ),
         Instruction::Return => moves::settle(s, i, ends::end_turn(&s.counts, i, t, k.vars, 1)),
         Instruction::Nothing => Stepped {
             answer: 17,

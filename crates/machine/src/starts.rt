@@ -11,7 +11,7 @@ use state::State;
 use threads::Thread;
 use values::Slot;
 
-fn is_object(classes: &[u8], c: u8, x: Slot) -> bool
+pub(crate) fn is_object(classes: &[u8], c: u8, x: Slot) -> bool
     ensures { λ r. ⌜ r ≡ isObject (now (classes .entry)) c x ⌝ }
 {
     if values::is_int(x) {

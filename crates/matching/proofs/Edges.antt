@@ -120,10 +120,18 @@ module _ (vars : ℕ) (x y : Row) where
       both-same (others-as v _ _ (λ i. named v (wantBoth (y .variable v) (y .stack 0)) i (eqb i v) refl))
       (top-then (x .depth) (x .variable v) (x .stack) wantNothing (λ j. want (y .stack (suc j))) ∙ both-same (nothing-short (x .variable v)) rest-0-1)
 
-  -- to a handler: the variables alone
+  -- the variables alone
   pub emptied-edge : edgeShort vars (edge (emptied x) (wants y)) ≡ varsPass vars x y
   unfolding edgeShort varsPass scan
   emptied-edge = then-nothing (firstShort vars (varShort x y))
+
+  variables-then : (e : Entry) → edgeShort vars (edge (pushed e (emptied x)) (wants y)) ≡ thenShort (varsPass vars x y) (compare e (want (y .stack 0)))
+  unfolding edgeShort varsPass scan
+  variables-then e = ap (thenShort (firstShort vars (varShort x y))) (pushed-stack e 0 (x .stack) ∙ then-nothing (compare e (want (y .stack 0))))
+
+  -- to a handler: the variables, and then what is thrown, alone on the stack
+  pub thrown-edge : (e : Entry) → edgeShort vars (edge (pushed e (emptied x)) (wants y)) ≡ thenShort (edgeShort vars (edge (emptied x) (wants y))) (compare e (want (y .stack 0)))
+  thrown-edge e = variables-then e ∙ sym (ap (λ w. thenShort w (compare e (want (y .stack 0)))) emptied-edge)
 
   -- load, by what is loaded
   pub loaded-reference : (v : ℕ) → isReference (x .variable v) ≡ true

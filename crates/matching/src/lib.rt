@@ -266,3 +266,23 @@ pub fn stack_goes(n: u8, k: Class, r: &[u8], p: u32) -> bool
     }
     true
 }
+
+fn below_goes(n: u8, k: Class, r: &[u8], p: u32, j: u8) -> bool
+    requires { ⌜ j ≤ 254 ⌝ }
+    ensures { λ o. ⌜ o ≡ entryGoes (popped 1 (rowFrom n (now (r .entry)) (k .vars) p)) j ⌝ }
+{
+    entries::may_go(n, rows::stack_word(r, p, k.vars, k.limit, 1 + j))
+}
+
+// The stack without its top.
+pub fn rest_goes(n: u8, k: Class, r: &[u8], p: u32) -> bool
+    ensures { λ o. ⌜ o ≡ stackGoes (popped 1 (rowFrom n (now (r .entry)) (k .vars) p)) ⌝ }
+{
+    let rest = depth_left(k, r, 1, p) as u8;
+    for j in 0..rest {
+        if !below_goes(n, k, r, p, j) {
+            return false;
+        }
+    }
+    true
+}

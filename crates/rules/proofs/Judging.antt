@@ -1,6 +1,6 @@
 -- What a ruling says of its rule; rulings of rules with one edge and with two.
 use mathlib.Core.List.{List, [], _∷_}
-use mathlib.Core.Path.{_≡_, refl, ap, sym, _∙_}
+use mathlib.Core.Path.{_≡_, refl, sym, _∙_}
 use mathlib.Core.Bool.{Bool, true, false, cond, _&&_}
 use Prim.Native.Nat.{ℕ, _+_, _-_, _≤_}
 use native.Mathlib.Omega.{arith}
@@ -56,6 +56,10 @@ pub and-true : (a : Bool) → (a && true) ≡ a
 and-true true = refl
 and-true false = refl
 
+pub and-assoc : (a b c : Bool) → ((a && b) && c) ≡ (a && (b && c))
+and-assoc true b c = refl
+and-assoc false b c = refl
+
 pub and-swap : (a b c : Bool) → ((a && b) && c) ≡ (a && (c && b))
 and-swap true true true = refl
 and-swap true true false = refl
@@ -71,6 +75,11 @@ module _ (vars : ℕ) (a : Bool) where
   pub ruling-one : (e : Edge) → ruling vars (rule a (e ∷ [])) ≡ judged (a && meets e) (edgeShort vars e)
   unfolding ruling asked shortOf
   ruling-one e = rw (and-true (meets e), then-nothing (edgeShort vars e))
+
+  -- any number of edges
+  pub ruling-any : (es : List Edge) → ruling vars (rule a es) ≡ judged (a && allMeet es) (shortAlong vars es)
+  unfolding ruling asked shortOf
+  ruling-any es = refl
 
   -- any number of edges after the first
   pub ruling-more : (e : Edge) (es : List Edge) → ruling vars (rule a (e ∷ es)) ≡ judged ((a && allMeet es) && meets e) (thenShort (edgeShort vars e) (shortAlong vars es))

@@ -1,6 +1,7 @@
--- What rules ask, with depths as the code compares them; and rules that never hold.
+-- What rules ask, with depths as the code compares them; rulings of the throws; and rules that never hold.
 use mathlib.Core.Path.{_≡_, refl, _∙_}
-use mathlib.Core.Bool.{Bool, true, false, _&&_}
+use mathlib.Core.List.{[], _∷_}
+use mathlib.Core.Bool.{Bool, true, false, cond, _&&_}
 use Prim.Native.Nat.{ℕ, _+_, _<_}
 use lib.Dec.{eqb, leb}
 use borrow.Author.Tests.{lt-leb}
@@ -9,12 +10,15 @@ use Rattle.instructions.specs.declared.Instruction.{Instruction}
 use Rattle.instructions.specs.declared.Instruction.the-variants.{Nothing}
 use Rattle.instructions.specs.Table.{zeroed}
 use Rattle.bundle.specs.Program.{Program}
-use Rattle.entries.specs.Entries.{isInt}
-use Rattle.entries.specs.Fits.{mayGo}
+use Rattle.entries.specs.Entries.{Entry, isInt, isOf}
+use Rattle.entries.specs.Fits.{mayGo, compare, want}
 use Rattle.rows.specs.Rows.{Row}
-use Rattle.rules.specs.Rule.{asked, unasked, ruling}
-use Rattle.rules.specs.Rules.{incRule, popRule, storeRule, ifRule, startRule, ruleOf}
-use Rattle.rules.proofs.Judging.{asked-one, asked-two, popped-depth, popped-depths, replaced-depth}
+use Rattle.matching.specs.Matching.{popped, pushed, emptied, wants, edge, thenShort, edgeShort, varsGo, stackGoes}
+use Rattle.matching.proofs.Scans.{then-nothing}
+use Rattle.matching.proofs.Edges.{thrown-edge}
+use Rattle.rules.specs.Rule.{allMeet, asked, shortAlong, unasked, ruling}
+use Rattle.rules.specs.Rules.{incRule, popRule, storeRule, ifRule, uncaughtGoes, thrown, made, throwRule, newRule, startRule, ruleOf}
+use Rattle.rules.proofs.Judging.{judged, and-true, and-assoc, ruling-any, ruling-more, asked-one, asked-two, popped-depth, popped-depths, replaced-depth}
 
 pub inc-asked : (x y : Row) → asked (incRule x y) ≡ ((leb 1 (x .depth) && isInt (x .stack 0)) && eqb (x .depth) (y .depth))
 unfolding incRule
@@ -47,3 +51,44 @@ zeroed-rule P vars row l field i = go (eqb field 0)
     go : (t : Bool) → ruling vars (ruleOf P vars row l (refuse t Nothing i)) ≡ refuse t unasked (ruling vars (ruleOf P vars row l i))
     go true = refl
     go false = refl
+
+-- ---- a throw of e, with the handler h: what goes uncaught is told together with the handler's depth, the variables apart from e
+module _ (vars h : ℕ) (e : Entry) (x z : Row) where
+  abbrev pub throwAsked : Bool
+  throwAsked = cond (eqb h 0) (mayGo e && varsGo vars x) (eqb 1 (z .depth))
+
+  abbrev pub throwShort : ℕ
+  throwShort = cond (eqb h 0) 0 (thenShort (edgeShort vars (edge (emptied x) (wants z))) (compare e (want (z .stack 0))))
+
+  throw-asked : (uncaughtGoes vars h e x && allMeet (thrown h e x z)) ≡ throwAsked
+  unfolding uncaughtGoes thrown
+  throw-asked = go (eqb h 0)
+    where
+      go : (t : Bool) → (cond t (mayGo e && varsGo vars x) true && allMeet (cond t [] (edge (pushed e (emptied x)) (wants z) ∷ []))) ≡ cond t (mayGo e && varsGo vars x) (eqb 1 (z .depth))
+      go true = and-true _
+      go false = and-true _
+
+  throw-short : shortAlong vars (thrown h e x z) ≡ throwShort
+  unfolding thrown
+  throw-short = go (eqb h 0)
+    where
+      go : (t : Bool) → shortAlong vars (cond t [] (edge (pushed e (emptied x)) (wants z) ∷ [])) ≡ cond t 0 (thenShort (edgeShort vars (edge (emptied x) (wants z))) (compare e (want (z .stack 0))))
+      go true = refl
+      go false = then-nothing _ ∙ thrown-edge vars x z e
+
+pub throw-ruling : (vars exception h : ℕ) (x z : Row)
+    → ruling vars (throwRule vars exception h x z)
+    ≡ judged ((leb 1 (x .depth) && isOf exception (x .stack 0) && stackGoes (popped 1 x)) && throwAsked vars h (x .stack 0) x z) (throwShort vars h (x .stack 0) x z)
+unfolding throwRule
+throw-ruling vars exception h x z =
+    rw (and-assoc (leb 1 (x .depth) && isOf exception (x .stack 0) && stackGoes (popped 1 x)) (uncaughtGoes vars h (x .stack 0) x) (allMeet (thrown h (x .stack 0) x z)), throw-asked vars h (x .stack 0) x z, throw-short vars h (x .stack 0) x z)
+    at (ruling-any vars (leb 1 (x .depth) && isOf exception (x .stack 0) && stackGoes (popped 1 x) && uncaughtGoes vars h (x .stack 0) x) (thrown h (x .stack 0) x z))
+
+pub new-ruling : (vars exception c h : ℕ) (x y z : Row)
+    → ruling vars (newRule vars exception c h x y z)
+    ≡ judged ((stackGoes x && throwAsked vars h (made exception) x z) && eqb (x .depth + 1) (y .depth))
+    (thenShort (edgeShort vars (edge (pushed (made c) x) (wants y))) (throwShort vars h (made exception) x z))
+unfolding newRule
+new-ruling vars exception c h x y z =
+    rw (and-assoc (stackGoes x) (uncaughtGoes vars h (made exception) x) (allMeet (thrown h (made exception) x z)), throw-asked vars h (made exception) x z, throw-short vars h (made exception) x z)
+    at (ruling-more vars (stackGoes x && uncaughtGoes vars h (made exception) x) (edge (pushed (made c) x) (wants y)) (thrown h (made exception) x z))

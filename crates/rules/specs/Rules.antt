@@ -7,7 +7,7 @@ use Rattle.ground.specs.Bounded.{allBelow}
 use Rattle.instructions.specs.declared.Instruction.{Instruction}
 use Rattle.instructions.specs.declared.Instruction.the-variants.{Inc, Pop, Push0, Load, Store, If, Enter, Exit, New, Start, Throw, Return, Nothing}
 use Rattle.bundle.specs.Program.{Program}
-use Rattle.entries.specs.Entries.{Int, Ref, noEnd, isInt, isReference, isOf, matches}
+use Rattle.entries.specs.Entries.{Entry, Int, Ref, noEnd, isInt, isReference, isOf, matches}
 use Rattle.entries.specs.Fits.{mayGo, wantEntered, wantLeft}
 use Rattle.rows.specs.Rows.{Row}
 use Rattle.matching.specs.Matching.{popped, pushed, stored, emptied, wants, wantsAt, wantsLoaded, Edge, edge, varsGo, stackGoes}
@@ -45,20 +45,27 @@ enterRule v x y = rule (isReference (x .variable v)) (edge x (wantsAt v (wantEnt
 unfoldable pub exitRule : ℕ → Row → Row → Rule
 exitRule v x y = rule (isReference (x .variable v)) (edge x (wantsAt v (wantLeft (y .variable v)) y) ∷ [])
 
--- athrow and a failed new, with the handler h (0 is none): every stack entry may go; with none, each variable may go
-unfoldable pub throwAsks : ℕ → ℕ → Row → Bool
-throwAsks vars h x = stackGoes x && cond (eqb h 0) (varsGo vars x) true
+-- a throw of the entry e, with the handler h (0 is none; document 02, Q-6): with none, e and each variable may go
+unfoldable pub uncaughtGoes : ℕ → ℕ → Entry → Row → Bool
+uncaughtGoes vars h e x = cond (eqb h 0) (mayGo e && varsGo vars x) true
 
--- .. with a handler, each variable fits the handler's row, whose depth is 0
-unfoldable pub thrown : ℕ → Row → Row → List Edge
-thrown h x z = cond (eqb h 0) [] (edge (emptied x) (wants z) ∷ [])
+-- .. with a handler, each variable fits the handler's row, and e its only stack entry
+unfoldable pub thrown : ℕ → Entry → Row → Row → List Edge
+thrown h e x z = cond (eqb h 0) [] (edge (pushed e (emptied x)) (wants z) ∷ [])
 
--- new c: in row l+1 the class with (0,0) fits the new top; rest fits; and what a failed new asks
-unfoldable pub newRule : ℕ → ℕ → ℕ → Row → Row → Row → Rule
-newRule vars c h x y z = rule (throwAsks vars h x) (edge (pushed (Ref c 0 noEnd) x) (wants y) ∷ thrown h x z)
+-- a class with (0,0): what new makes and, of the exception class, what a failed new hands
+abbrev pub made : ℕ → Entry
+made c = Ref c 0 noEnd
 
-unfoldable pub throwRule : ℕ → ℕ → Row → Row → Rule
-throwRule vars h x z = rule (throwAsks vars h x) (thrown h x z)
+-- new c: in row l+1 the class with (0,0) fits the new top; rest fits; every stack entry may go; a failed new throws (0,0) of the exception class
+unfoldable pub newRule : ℕ → ℕ → ℕ → ℕ → Row → Row → Row → Rule
+newRule vars exception c h x y z =
+    rule (stackGoes x && uncaughtGoes vars h (made exception) x) (edge (pushed (made c) x) (wants y) ∷ thrown h (made exception) x z)
+
+-- athrow: top is a reference of the exception class; the rest of the stack may go; the top is thrown
+unfoldable pub throwRule : ℕ → ℕ → ℕ → Row → Row → Rule
+throwRule vars exception h x z =
+    rule (leb 1 (x .depth) && isOf exception (x .stack 0) && stackGoes (popped 1 x) && uncaughtGoes vars h (x .stack 0) x) (thrown h (x .stack 0) x z)
 
 -- an argument that start takes: it matches its descriptor, and may go
 unfoldable pub argumentGoes : (ℕ → ℕ) → Row → ℕ → Bool
@@ -90,8 +97,8 @@ ruleOf P vars row l (Store v) = storeRule (v .0) (row l) (row (l + 1))
 ruleOf P vars row l (If a) = ifRule (row l) (row (l + 1)) (row (a .0))
 ruleOf P vars row l (Enter v) = enterRule (v .0) (row l) (row (l + 1))
 ruleOf P vars row l (Exit v) = exitRule (v .0) (row l) (row (l + 1))
-ruleOf P vars row l (New c h) = newRule vars c (h .0) (row l) (row (l + 1)) (row (h .0))
+ruleOf P vars row l (New c h) = newRule vars (P .exception) c (h .0) (row l) (row (l + 1)) (row (h .0))
 ruleOf P vars row l (Start c) = startRule (P .method c .args) (P .method c .descriptor) c (row l) (row (l + 1))
-ruleOf P vars row l (Throw h) = throwRule vars (h .0) (row l) (row (h .0))
+ruleOf P vars row l (Throw h) = throwRule vars (P .exception) (h .0) (row l) (row (h .0))
 ruleOf P vars row l Return = returnRule vars (row l)
 ruleOf P vars row l Nothing = rule false []

@@ -1,6 +1,6 @@
 // The rules of document 01, instruction by instruction: what each asks, and its edges. Rows p (of address l), q (of l+1) and h (the target's or handler's) are given by where they begin.
 ghost use mathlib.Core.Path.{_≡_};
-ghost use mathlib.Core.Bool.{_&&_, true};
+ghost use mathlib.Core.Bool.{_&&_, true, cond};
 ghost use Prim.Native.Nat.{_+_};
 ghost use lib.Dec.{eqb};
 ghost use Rattle.ground.specs.Bytes.{at};
@@ -8,9 +8,9 @@ ghost use Rattle.ground.specs.Chain.{refuse};
 ghost use Rattle.bundle.specs.Program.{programOf};
 ghost use Rattle.instructions.specs.Table.{decoded};
 ghost use Rattle.rows.specs.Rows.{rowFrom, rowAt};
-ghost use Rattle.matching.specs.Matching.{thenShort};
-ghost use Rattle.rules.specs.Rule.{asked, allMeet, shortAlong, unasked, ruling};
-ghost use Rattle.rules.specs.Rules.{incRule, popRule, push0Rule, loadRule, storeRule, ifRule, enterRule, exitRule, throwAsks, thrown, throwRule, newRule, argumentGoes, objectGoes, argumentsGo, startRule, returnRule, ruleOf};
+ghost use Rattle.matching.specs.Matching.{emptied, wants, edge, thenShort, edgeShort, varsGo};
+ghost use Rattle.rules.specs.Rule.{asked, unasked, ruling};
+ghost use Rattle.rules.specs.Rules.{incRule, popRule, push0Rule, loadRule, storeRule, ifRule, enterRule, exitRule, throwRule, newRule, argumentGoes, objectGoes, argumentsGo, startRule, returnRule, ruleOf};
 use bundle::Class;
 use instructions::Addr;
 use instructions::Code;
@@ -222,46 +222,53 @@ fn exit_rule(n: u8, k: Class, r: &[u8], v: u8, p: u32, q: u32) -> Ruling
     }
 }
 
-// What athrow and a failed new ask, the handler's depth among it.
-fn throw_asks(n: u8, k: Class, r: &[u8], handler: u16, p: u32, h: u32) -> bool
-    ensures { λ o. ⌜ o ≡ (throwAsks (k .vars) handler (rowFrom n (now (r .entry)) (k .vars) p) && allMeet (thrown handler (rowFrom n (now (r .entry)) (k .vars) p) (rowFrom n (now (r .entry)) (k .vars) h))) ⌝ }
+// What a throw asks besides the stack; `goes` is whether what is thrown may go.
+fn throw_asks(n: u8, k: Class, r: &[u8], handler: u16, goes: bool, p: u32, h: u32) -> bool
+    ensures { λ o. ⌜ o ≡ cond (eqb handler 0) (goes && varsGo (k .vars) (rowFrom n (now (r .entry)) (k .vars) p)) (eqb 1 (rowFrom n (now (r .entry)) (k .vars) h .depth)) ⌝ }
 {
-    if !matching::stack_goes(n, k, r, p) {
-        return false;
-    }
     if handler == 0 {
-        return matching::vars_go(n, k, r, p);
+        return goes & matching::vars_go(n, k, r, p);
     }
-    0 == matching::depth_of(k, r, h)
+    1 == matching::depth_of(k, r, h)
 }
 
-fn thrown_short(n: u8, k: Class, r: &[u8], handler: u16, p: u32, h: u32) -> u8
-    ensures { λ o. ⌜ o ≡ shortAlong (k .vars) (thrown handler (rowFrom n (now (r .entry)) (k .vars) p) (rowFrom n (now (r .entry)) (k .vars) h)) ⌝ }
+// The comparison of what is thrown with the handler's only entry gave t.
+fn thrown_short(n: u8, k: Class, r: &[u8], handler: u16, t: u8, p: u32, h: u32) -> u8
+    ensures { λ o. ⌜ o ≡ cond (eqb handler 0) 0 (thenShort (edgeShort (k .vars) (edge (emptied (rowFrom n (now (r .entry)) (k .vars) p)) (wants (rowFrom n (now (r .entry)) (k .vars) h)))) t) ⌝ }
 {
     if handler == 0 {
         return 0;
     }
-    matching::emptied_edge(n, k, r, p, h)
+    then_short(matching::emptied_edge(n, k, r, p, h), t)
 }
 
-fn throw_rule(n: u8, k: Class, r: &[u8], handler: u16, p: u32, h: u32) -> Ruling
-    ensures { λ o. ⌜ o ≡ ruling (k .vars) (throwRule (k .vars) handler (rowFrom n (now (r .entry)) (k .vars) p) (rowFrom n (now (r .entry)) (k .vars) h)) ⌝ }
+// x is the exception class.
+fn throw_rule(n: u8, k: Class, r: &[u8], x: u8, handler: u16, p: u32, h: u32) -> Ruling
+    ensures { λ o. ⌜ o ≡ ruling (k .vars) (throwRule (k .vars) x handler (rowFrom n (now (r .entry)) (k .vars) p) (rowFrom n (now (r .entry)) (k .vars) h)) ⌝ }
 {
+    let top = rows::stack_word(r, p, k.vars, k.limit, 0);
+    let t = entries::compare(n, top, rows::stack_word(r, h, k.vars, k.limit, 0));
     judged(
-        throw_asks(n, k, r, handler, p, h),
-        thrown_short(n, k, r, handler, p, h),
+        (1 <= matching::depth_of(k, r, p))
+            & entries::is_of(n, x, top)
+            & matching::rest_goes(n, k, r, p)
+            & throw_asks(n, k, r, handler, entries::may_go(n, top), p, h),
+        thrown_short(n, k, r, handler, t, p, h),
     )
 }
 
-fn new_rule(n: u8, k: Class, r: &[u8], c: u8, handler: u16, p: u32, q: u32, h: u32) -> Ruling
-    ensures { λ o. ⌜ o ≡ ruling (k .vars) (newRule (k .vars) c handler (rowFrom n (now (r .entry)) (k .vars) p) (rowFrom n (now (r .entry)) (k .vars) q) (rowFrom n (now (r .entry)) (k .vars) h)) ⌝ }
+// A failed new throws the exception class with (0,0), which may go.
+fn new_rule(n: u8, k: Class, r: &[u8], x: u8, c: u8, handler: u16, p: u32, q: u32, h: u32) -> Ruling
+    ensures { λ o. ⌜ o ≡ ruling (k .vars) (newRule (k .vars) x c handler (rowFrom n (now (r .entry)) (k .vars) p) (rowFrom n (now (r .entry)) (k .vars) q) (rowFrom n (now (r .entry)) (k .vars) h)) ⌝ }
 {
+    let t = entries::compare_made(n, x, rows::stack_word(r, h, k.vars, k.limit, 0));
     judged(
-        throw_asks(n, k, r, handler, p, h)
+        matching::stack_goes(n, k, r, p)
+            & throw_asks(n, k, r, handler, true, p, h)
             & (matching::depth_of(k, r, p) + 1 == matching::depth_of(k, r, q)),
         then_short(
             matching::made_edge(n, k, r, c, p, q),
-            thrown_short(n, k, r, handler, p, h),
+            thrown_short(n, k, r, handler, t, p, h),
         ),
     )
 }
@@ -346,7 +353,7 @@ fn zeroed(field: u16, o: Ruling) -> Ruling
     o
 }
 
-// The ruling of the instruction x at address l of the method whose record is r. The bundle is asked only for the class that a start names.
+// The ruling of the instruction x at address l of the method whose record is r. The bundle is asked only for the class that a start names, and for the exception class.
 // The opcode is looked at once.
 pub fn rule_of(b: &[u8], n: u8, k: Class, r: &[u8], l: Addr, x: Code) -> Ruling
     ensures { λ o. ⌜ o ≡ ruling (k .vars) (ruleOf (programOf (now (b .entry))) (k .vars) (rowAt n k (now (r .entry))) (l .0) (decoded x)) ⌝ }
@@ -367,9 +374,12 @@ pub fn rule_of(b: &[u8], n: u8, k: Class, r: &[u8], l: Addr, x: Code) -> Ruling
         6 => zeroed(zero, if_rule(n, k, r, p, q, h)),
         7 => zeroed(address, enter_rule(n, k, r, operand, p, q)),
         8 => zeroed(address, exit_rule(n, k, r, operand, p, q)),
-        9 => new_rule(n, k, r, operand, address, p, q, h),
+        9 => new_rule(n, k, r, bundle::exception(b), operand, address, p, q, h),
         10 => zeroed(address, start_of(b, n, k, r, operand, p, q)),
-        11 => zeroed(zero, throw_rule(n, k, r, address, p, h)),
+        11 => zeroed(
+            zero,
+            throw_rule(n, k, r, bundle::exception(b), address, p, h),
+        ),
         12 => zeroed(zero, zeroed(address, return_rule(n, k, r, p))),
         _ => Ruling {
             asked: false,

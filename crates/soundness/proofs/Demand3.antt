@@ -54,7 +54,7 @@ module _ (b : List ℕ) (e : verdictOf b .number ≡ 0) where
 
   -- THEOREM: the invariant holds of every state that is reached
   pub inv-reached : (xs : List Step) → Inv P R (reached b xs)
-  unfolding freshOf refuse
+  unfolding freshOf refuse programOf
   inv-reached xs = inv-run (freshOf b .state) (rw can-read (inv-fresh P R (accepted b e))) xs
 
   pub sound : (s : State) → Inv P R s → (x : Step) → Sound b s x

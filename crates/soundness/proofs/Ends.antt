@@ -1,36 +1,40 @@
--- athrow, return and a failed new: a thread ends only where everything may go, and then it holds nothing.
-use Prim.Native.Nat.{ℕ, _≤_, _<_}
+-- return, and a throw: a thread ends only where everything may go, and then it holds nothing; a handler finds what was thrown.
+use Prim.Native.Nat.{ℕ, _+_, _-_, _≤_, _<_}
 use mathlib.Core.Path.{_≡_, refl, _∙_}
 use mathlib.Core.List.{[], _∷_}
-use mathlib.Core.Bool.{true, false, cond}
+use mathlib.Core.Bool.{true, false, _&&_}
 use native.Mathlib.Omega.{arith}
-use lib.Dec.{eqb}
-use borrow.Author.Tests.{eqb-false, eq-eqb}
+use native.Mathlib.Decide.{ℕ-discrete}
+use lib.Dec.{leb, eqb}
+use borrow.Author.Tests.{leb-true, le-leb, eqb-false, eq-eqb}
 use Rattle.ground.proofs.Bools.{and-fst, and-snd}
 use Rattle.ground.proofs.Bounded.{all-elim, all-intro}
 use Rattle.ground.proofs.Writes.{fill-length}
 use Rattle.instructions.specs.declared.Addr.{Addr}
 use Rattle.bundle.specs.Program.{Program}
 use Rattle.rows.specs.Rows.{Row}
-use Rattle.entries.specs.Entries.{noEnd, endOf}
+use Rattle.entries.specs.Entries.{Entry, noEnd, endOf, isOf}
+use Rattle.entries.specs.Fits.{mayGo}
 use Rattle.matching.specs.Matching.{emptied, wants, edge, varsGo, entryGoes, stackGoes}
 use Rattle.matching.specs.Matching as rows
 use Rattle.rules.specs.Rule.{holds}
-use Rattle.rules.specs.Rules.{throwAsks, thrown, returnRule}
-use Rattle.values.specs.Values.{zeroSlot}
+use Rattle.rules.specs.Rules.{uncaughtGoes, thrown, made, throwRule, returnRule}
+use Rattle.values.specs.declared.Slot.{Slot}
+use Rattle.values.specs.Values.{zeroSlot, refSlot}
 use Rattle.threads.specs.declared.Thread.{Thread}
-use Rattle.threads.specs.Threads.{popped, ended}
+use Rattle.threads.specs.Threads.{topOf, popped, ended}
 use Rattle.state.specs.declared.State.{State}
 use Rattle.state.specs.State.{threadAt, countOf, classOf, isFree, holdsNothing}
-use Rattle.machine.specs.Answers.{wentTo}
-use Rattle.machine.specs.Instructions.{endStep, throwStep}
+use Rattle.machine.specs.Answers.{unless, wentTo}
+use Rattle.machine.specs.Instructions.{endStep, caught, throwStep, athrowStep}
 use Rattle.soundness.proofs.Balance.{all-go}
+use Rattle.soundness.proofs.Kind.{object-is}
 use Rattle.soundness.proofs.Held.{AllFit, held}
 use Rattle.soundness.proofs.Weights.{goes-end}
 use Rattle.soundness.proofs.Slots.{all-end}
-use Rattle.soundness.proofs.Values.{valueOf}
-use Rattle.soundness.proofs.Accepted.{Accepted}
-use Rattle.soundness.proofs.Stands.{Stands, pop-stands}
+use Rattle.soundness.proofs.Values.{valueOf, pushed-is}
+use Rattle.soundness.proofs.Accepted.{Address, Accepted}
+use Rattle.soundness.proofs.Stands.{Stands, entry-kind, pop-stands, push-stands, throw-stands}
 use Rattle.soundness.proofs.Invariant.{entryAt, Asleep, Inv}
 use Rattle.soundness.proofs.Moves.{others, asleep-standing, thread-moves, Good, passes, branches}
 use Rattle.soundness.proofs.Goes.{v16, d16, at-here, goes-to}
@@ -41,6 +45,9 @@ module _ (P : Program) (R : ℕ → ℕ → Row) (A : Accepted P R) (s : State) 
 
   abbrev vars : ℕ
   vars = P .method (threadAt s i .class) .vars
+
+  abbrev limit : ℕ
+  limit = P .method (threadAt s i .class) .limit
 
   abbrev here : Row
   here = R (threadAt s i .class) (threadAt s i .at .0)
@@ -93,29 +100,81 @@ module _ (P : Program) (R : ℕ → ℕ → Row) (A : Accepted P R) (s : State) 
       let a = held vars (returnRule vars here) e .0 in
       end-good 1 (omega arith) (and-snd (stackGoes here) (varsGo vars here) a) (and-fst (stackGoes here) (varsGo vars here) a)
 
-  -- athrow, and a failed new, with the handler h: what is asked, and the edge to the handler
-  pub throw-good : (h : Addr) → h .0 ≤ P .method (T .class) .code → throwAsks vars (h .0) here ≡ true → AllFit vars (thrown (h .0) here (R (T .class) (h .0)))
-      → Good P R s i (throwStep s i T vars h)
-  unfolding throwAsks thrown throwStep stackGoes popped
-  throw-good h l a f = branches P R s i (eqb (h .0) 0) _ _ none caught
+  -- the entry e is thrown, as the value x: what goes uncaught, and the edge to the handler
+  pub throw-good : (h : Addr) (e : Entry) (x : Slot) → h .0 ≤ P .method (T .class) .code
+      → uncaughtGoes vars (h .0) e here ≡ true → (mayGo e ≡ true → stackGoes here ≡ true) → AllFit vars (thrown (h .0) e here (R (T .class) (h .0)))
+      → Stands vars (s .objects) cls cnt (rows.pushed e (rows.popped (T .depth) here)) (caught T x)
+      → Good P R s i (throwStep s i T limit vars h x)
+  unfolding uncaughtGoes thrown throwStep popped
+  throw-good h e x l a sg f w = branches P R s i (eqb (h .0) 0) _ _ none found
     where
-      sg : stackGoes here ≡ true
-      sg = and-fst (stackGoes here) (cond (eqb (h .0) 0) (varsGo vars here) true) a
-
       none : eqb (h .0) 0 ≡ true → Good P R s i (endStep s i T vars 2)
-      none q = end-good 2 (omega arith) (rw q at (and-snd (stackGoes here) (cond (eqb (h .0) 0) (varsGo vars here) true) a)) sg
+      none q =
+          let g : (mayGo e && varsGo vars here) ≡ true = rw q at a in
+          end-good 2 (omega arith) (and-snd (mayGo e) (varsGo vars here) g) (sg (and-fst (mayGo e) (varsGo vars here) g))
 
-      goes : (j : ℕ) → j < T .depth → noEnd ≤ endOf (here .stack j)
-      goes j k = goes-end (here .stack j) (all-elim (entryGoes here) (here .depth) sg j (omega (arith, st .depth-exact)))
-
-      caught : eqb (h .0) 0 ≡ false → Good P R s i (wentTo s i (popped (T .depth) T) (h .0))
-      caught q =
-          let g : AllFit vars (edge (emptied here) (wants (R (T .class) (h .0))) ∷ []) = rw q at f in
-          goes-to P R A s inv i li lv (popped (T .depth) T) (rows.popped (T .depth) here) (h .0)
-          (record { class-known = inv .thread i li .live lv .address .class-known; first = omega (arith, eqb-false (h .0) 0 q); last = l }) lv refl
-          (pop-stands vars w16 (s .objects) cls cnt here T e16 st (T .depth) (omega (arith, st .depth-exact)) goes)
+      found : eqb (h .0) 0 ≡ false → Good P R s i (unless (leb 1 limit) 12 s (wentTo s i (caught T x) (h .0)))
+      found q =
+          let g : AllFit vars (edge (rows.pushed e (emptied here)) (wants (R (T .class) (h .0))) ∷ []) = rw q at f in
+          let ad : Address P (T .class) (h .0) = record { class-known = inv .thread i li .live lv .address .class-known; first = omega (arith, eqb-false (h .0) 0 q); last = l } in
+          let is = pushed-is (popped (T .depth) T) x (omega arith) in
+          passes P R s i _ 12 _ (le-leb 1 limit (omega (arith, g .0 .depths, A .depth-limit (T .class) (h .0) ad)))
+          (goes-to P R A s inv i li lv (caught T x) (rows.pushed e (rows.popped (T .depth) here)) (h .0) ad (rw is lv) (rw is) w
           (record {
             depths = omega (arith, g .0 .depths, st .depth-exact);
             variables = g .0 .variables;
-            entries = λ j k. absurd (omega (arith, st .depth-exact));
-          })
+            entries = λ j k. let z : j ≡ 0 = omega (arith, st .depth-exact) in rw z (g .0 .entries 0 (omega arith));
+          }))
+
+  -- a failed new throws object 0, as (0,0) of the exception class
+  pub failed-good : (h : Addr) → h .0 ≤ P .method (T .class) .code → stackGoes here ≡ true → uncaughtGoes vars (h .0) (made (P .exception)) here ≡ true
+      → AllFit vars (thrown (h .0) (made (P .exception)) here (R (T .class) (h .0))) → Good P R s i (throwStep s i T limit vars h (refSlot 0))
+  unfolding stackGoes popped
+  failed-good h l sg a f =
+      throw-good h (made (P .exception)) (refSlot 0) l a (λ _. sg) f
+      (push-stands vars w16 (s .objects) cls cnt (rows.popped (T .depth) here) (popped (T .depth) T) (omega arith)
+      (pop-stands vars w16 (s .objects) cls cnt here T e16 st (T .depth) (omega (arith, st .depth-exact)) goes)
+      (refSlot 0) (made (P .exception)) (omega arith) refl refl (inv .whole .some-object, inv .whole .first-class))
+    where
+      goes : (j : ℕ) → j < T .depth → noEnd ≤ endOf (here .stack j)
+      goes j k = goes-end (here .stack j) (all-elim (entryGoes here) (here .depth) sg j (omega (arith, st .depth-exact)))
+
+  pub athrow-good : (h : Addr) → h .0 ≤ P .method (T .class) .code → holds vars (throwRule vars (P .exception) (h .0) here (R (T .class) (h .0))) ≡ true
+      → Good P R s i (athrowStep s i T (P .exception) limit vars h)
+  unfolding throwRule athrowStep stackGoes
+  athrow-good h l e =
+      passes P R s i _ 11 _ (le-leb 1 (T .depth) (omega (arith, st .depth-exact, en)))
+      (passes P R s i _ 13 _ (object-is (s .objects) (s .classes) (P .exception) (here .stack 0) (topOf T) is (entry-kind vars w16 (s .objects) cls cnt here T e16 st 0 (omega (arith, st .depth-exact, en))))
+      (throw-good h (here .stack 0) (topOf T) l ug all (r .1) (throw-stands vars w16 (s .objects) cls cnt here T e16 st en below)))
+    where
+      r : ((leb 1 (here .depth) && isOf (P .exception) (here .stack 0) && stackGoes (rows.popped 1 here) && uncaughtGoes vars (h .0) (here .stack 0) here) ≡ true) × AllFit vars (thrown (h .0) (here .stack 0) here (R (T .class) (h .0)))
+      r = held vars (throwRule vars (P .exception) (h .0) here (R (T .class) (h .0))) e
+
+      a : (leb 1 (here .depth) && isOf (P .exception) (here .stack 0) && stackGoes (rows.popped 1 here) && uncaughtGoes vars (h .0) (here .stack 0) here) ≡ true
+      a = r .0
+
+      en : 1 ≤ here .depth
+      en = leb-true _ _ (search (and-fst, and-snd, a))
+
+      is : isOf (P .exception) (here .stack 0) ≡ true
+      is = search (and-fst, and-snd, a)
+
+      rest : stackGoes (rows.popped 1 here) ≡ true
+      rest = search (and-fst, and-snd, a)
+
+      ug : uncaughtGoes vars (h .0) (here .stack 0) here ≡ true
+      ug = search (and-fst, and-snd, a)
+
+      go : (j p : ℕ) → j ≡ 1 + p → j < here .depth → mayGo (here .stack j) ≡ true
+      go j p q k = rw q (all-elim (entryGoes (rows.popped 1 here)) (here .depth - 1) rest p (omega arith))
+
+      below : (j : ℕ) → 1 ≤ j → j < here .depth → noEnd ≤ endOf (here .stack j)
+      below j b k = goes-end (here .stack j) (go j (j - 1) (omega arith) k)
+
+      -- with the top, every entry
+      all : mayGo (here .stack 0) ≡ true → stackGoes here ≡ true
+      all m = all-intro (entryGoes here) (here .depth) (λ j k. each j k (ℕ-discrete j 0))
+        where
+          each : (j : ℕ) → j < here .depth → Dec (j ≡ 0) → mayGo (here .stack j) ≡ true
+          each j k (yes q) = rw q m
+          each j k (no q) = go j (j - 1) (omega arith) k

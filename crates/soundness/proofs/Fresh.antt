@@ -21,6 +21,7 @@ use Rattle.threads.specs.declared.Thread.{Thread}
 use Rattle.threads.specs.Threads.{idle}
 use Rattle.state.specs.State.{countOf, classOf, emptyState}
 use Rattle.machine.specs.Machine.{mainThread, freshState}
+use Rattle.machine.proofs.Changes.{grown}
 use Rattle.soundness.proofs.Kind.{Matches}
 use Rattle.soundness.proofs.Held.{compared}
 use Rattle.soundness.proofs.Weights.{same-weaker, meets-weaker, gone-slot, fresh-slot}
@@ -30,7 +31,7 @@ use Rattle.soundness.proofs.Slots.{slotOf, slot-var, slot-novar, slot-n
 use Rattle.soundness.proofs.Values.{valueIn, value-zero}
 use Rattle.soundness.proofs.Accepted.{Accepted}
 use Rattle.soundness.proofs.Invariant.{entryAt, Live, Inv}
-use Rattle.soundness.proofs.Moves.{others, live-standing, asleep-standing, thread-moves}
+use Rattle.soundness.proofs.Moves.{others, live-standing, asleep-standing, thread-moves, grown-is}
 
 abbrev pub born : ℕ → List Slot → List Slot → Thread
 born c vars stack = record { live = true; class = c; at = addr 1; depth = 0; vars = vars; stack = stack }
@@ -94,26 +95,30 @@ module _ (P : Program) (R : ℕ → ℕ → Row) (A : Accepted P R) where
   no-count : (i o : ℕ) → i < 8 → o < 32 → countOf (replicate 256 0) i o ≡ 0
   no-count i o l k = getD-replicate 256 (i * 32 + o) 0 0 (omega arith)
 
-  inv-empty : Inv P R emptyState
-  inv-empty =
+  -- object 0 alone, and no live thread
+  inv-one : Inv P R (grown emptyState (P .exception))
+  inv-one =
       record {
         whole = record {
           threads-8 = refl;
           counts-256 = refl;
           classes-32 = refl;
           objects-32 = omega arith;
-          object-class = λ o l. absurd (omega arith);
+          some-object = omega arith;
+          first-class = refl;
+          object-class = λ o l. let q : o ≡ 0 = omega arith in rw q (A .formed .exception);
           one-holder = λ i j o li lj lo x z. no-count j o lj lo;
         };
         thread = λ i l. rw (getD-replicate 8 i idle idle l)
-            (asleep-standing P R 0 (classOf emptyState) (countOf (replicate 256 0) i) idle refl
+            (asleep-standing P R 1 (classOf (grown emptyState (P .exception))) (countOf (replicate 256 0) i) idle refl
             (record { sized = record { vars = refl; stack = refl }; free = λ o k. no-count i o l k }));
       }
 
   -- THEOREM: the invariant holds of the fresh machine
-  pub inv-fresh : Inv P R freshState
+  pub inv-fresh : Inv P R (freshState (P .exception))
   inv-fresh =
-      thread-moves P R emptyState 0 (omega arith) (others P R emptyState inv-empty 0) mainThread
-      (live-standing P R 0 (classOf emptyState) (countOf (replicate 256 0) 0) mainThread
-      (born-live 0 (classOf emptyState) (countOf (replicate 256 0) 0) 0 (A .formed .some-class) (replicate 16 zeroSlot) (replicate 16 zeroSlot) refl refl
-      (λ o k. no-count 0 o (omega arith) k) (λ i l. absurd (omega (arith, A .formed .main-args))) (λ i l b. zeros i b)))
+      rw (grown-is emptyState (P .exception) (omega arith))
+      (thread-moves P R (grown emptyState (P .exception)) 0 (omega arith) (others P R (grown emptyState (P .exception)) inv-one 0) mainThread
+      (live-standing P R 1 (classOf (grown emptyState (P .exception))) (countOf (replicate 256 0) 0) mainThread
+      (born-live 1 (classOf (grown emptyState (P .exception))) (countOf (replicate 256 0) 0) 0 (A .formed .some-class) (replicate 16 zeroSlot) (replicate 16 zeroSlot) refl refl
+      (λ o k. no-count 0 o (omega arith) k) (λ i l. absurd (omega (arith, A .formed .main-args))) (λ i l b. zeros i b))))

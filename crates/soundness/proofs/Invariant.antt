@@ -49,6 +49,9 @@ pub record Whole (P : Program) (s : State) : Type 0 where
   pub counts-256 : length (s .counts) ≡ 256
   pub classes-32 : length (s .classes) ≡ 32
   pub objects-32 : s .objects ≤ 32
+  -- object 0 is there, of the exception class: what a failed new throws
+  pub some-object : 1 ≤ s .objects
+  pub first-class : classOf s 0 ≡ P .exception
   pub object-class : (o : ℕ) → o < s .objects → classOf s o < P .classes
   pub one-holder : (i j o : ℕ) → i < 8 → j < 8 → o < 32 → i ≢ j → 0 < countOf (s .counts) i o → countOf (s .counts) j o ≡ 0
 
@@ -111,6 +114,8 @@ module _ (P : Program) (R : ℕ → ℕ → Row) (A : Accepted P R) (s : State) 
   belongs =
       record {
         live-placed = λ i l a. placed P R A (s .objects) (classOf s) (countOf (s .counts) i) (threadAt s i) (inv .thread i l .live a);
+        some-object = inv .whole .some-object;
+        first-class = inv .whole .first-class;
         objects-32 = inv .whole .objects-32;
         object-class = inv .whole .object-class;
         counted = λ i o l k. counted i o l k (threadAt s i .live) refl;

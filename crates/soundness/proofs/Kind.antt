@@ -1,16 +1,20 @@
 -- Which values an entry may stand for: kinds, apart from what an entry weighs. There are n objects, of the classes cls.
 use mathlib.Core.Path.{_≡_, refl, _∙_}
 use mathlib.Core.Bool.{Bool, true, false, cond, false≢true}
+use mathlib.Core.List.{List}
 use Prim.Native.Nat.{ℕ, _≤_, _<_}
+use lib.ListN.{getD}
 use native.Mathlib.Omega.{arith}
 use lib.Dec.{eqb}
-use borrow.Author.Tests.{eqb-true, lt-ltb}
+use borrow.Author.Tests.{eqb-true, eq-eqb, lt-ltb}
 use Rattle.entries.specs.Entries.{Entry, Int, Top, Ref, Blank, Malformed, noEnd, isInt, isReference, isType, isOf, argumentEntry, matches}
 use Rattle.entries.specs.Entries as entries
 use Rattle.entries.specs.Fits.{takes}
+use Rattle.values.specs.declared.Slot.{Slot}
 use Rattle.values.specs.declared.Value.{Value}
 use Rattle.values.specs.declared.Value.the-variants.{Int as num, Ref as obj}
 use Rattle.values.specs.Values.{isIntValue, objectOfValue, refersValue, incValue}
+use Rattle.machine.specs.Instructions.{isObject}
 
 -- `Blank` is a place that is not in use: any value may be left there
 abbrev pub Matches : ℕ → (ℕ → ℕ) → Entry → Value → Type 0
@@ -115,3 +119,9 @@ module _ (n : ℕ) (cls : ℕ → ℕ) where
   type-refers (Ref c d e) (obj r) h m = lt-ltb r n (m .0)
   type-refers Blank (obj r) h m = nope h
   type-refers Malformed (obj r) h m = nope h
+
+-- no fault 13
+pub object-is : (n : ℕ) (classes : List ℕ) (c : ℕ) (e : Entry) (x : Slot) → isOf c e ≡ true → Matches n (λ o. getD classes o 0) e (x .value) → isObject classes c x ≡ true
+object-is n classes c e x h m =
+    let r = ref-value n (λ o. getD classes o 0) (Ref c 0 noEnd) (x .value) refl (of-value n (λ o. getD classes o 0) c e (x .value) h m) in
+    rw (r .0, eq-eqb _ _ (r .2))

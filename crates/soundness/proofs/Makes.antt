@@ -6,12 +6,12 @@ use native.Mathlib.Omega.{arith}
 use lib.Dec.{leb}
 use lib.Seq.{getD-set-same, getD-set-other}
 use borrow.Author.Tests.{leb-false, lt-ltb}
-use Rattle.ground.proofs.Bools.{or-false-snd}
+use Rattle.ground.proofs.Bools.{and-fst, and-snd, or-false-snd}
 use Rattle.instructions.specs.declared.Addr.{Addr}
 use Rattle.bundle.specs.Program.{Program}
 use Rattle.entries.specs.Entries.{Ref, noEnd}
 use Rattle.rows.specs.Rows.{Row}
-use Rattle.matching.specs.Matching.{wants, edge}
+use Rattle.matching.specs.Matching.{wants, edge, stackGoes}
 use Rattle.matching.specs.Matching as rows
 use Rattle.rules.specs.Rule.{holds}
 use Rattle.rules.specs.Rules.{newRule}
@@ -30,7 +30,7 @@ use Rattle.soundness.proofs.Stands.{Stands, push-stands, fit-stands}
 use Rattle.soundness.proofs.Invariant.{Live, Inv}
 use Rattle.soundness.proofs.Moves.{others, standing-more, live-standing, thread-moves, object-grows, grown-is, Good, went, passes, branches}
 use Rattle.soundness.proofs.Goes.{arrives, v16, d16, at-here, has-room}
-use Rattle.soundness.proofs.Ends.{throw-good}
+use Rattle.soundness.proofs.Ends.{failed-good}
 
 module _ (P : Program) (R : ℕ → ℕ → Row) (A : Accepted P R) (s : State) (inv : Inv P R s) (i : ℕ) (li : i < 8) (lv : threadAt s i .live ≡ true) where
   abbrev T : Thread
@@ -94,10 +94,10 @@ module _ (P : Program) (R : ℕ → ℕ → Row) (A : Accepted P R) (s : State) 
           (λ o k. getD-set-other (s .classes) (s .objects) o c 0 (omega arith)) (λ o _. refl) (inv .thread i li) .live lv
 
   pub new-good : (c : ℕ) (h : Addr) (fails : Bool) → c < P .classes → h .0 ≤ P .method (T .class) .code → Next
-      → holds vars (newRule vars c (h .0) here next (R (T .class) (h .0))) ≡ true → Good P R s i (newStep s i T limit vars c h fails)
+      → holds vars (newRule vars (P .exception) c (h .0) here next (R (T .class) (h .0))) ≡ true → Good P R s i (newStep s i T limit vars c h fails)
   unfolding newRule newStep
   new-good c h fails lc lh ad e =
-      let r = held vars (newRule vars c (h .0) here next (R (T .class) (h .0))) e in
+      let r = held vars (newRule vars (P .exception) c (h .0) here next (R (T .class) (h .0))) e in
       branches P R s i (fails || leb 32 (s .objects)) _ _
-      (λ _. throw-good P R A s inv i li lv h lh (r .0) (r .1 .1))
+      (λ _. failed-good P R A s inv i li lv h lh (and-fst (stackGoes here) _ (r .0)) (and-snd (stackGoes here) _ (r .0)) (r .1 .1))
       (λ q. make-good c lc (leb-false 32 (s .objects) (or-false-snd fails (leb 32 (s .objects)) q)) ad (r .1 .0))

@@ -65,6 +65,8 @@ module _ (P : Program) (R : ℕ → ℕ → Row) where
             counts-256 = h .whole .counts-256;
             classes-32 = h .whole .classes-32;
             objects-32 = h .whole .objects-32;
+            some-object = h .whole .some-object;
+            first-class = h .whole .first-class;
             object-class = h .whole .object-class;
             one-holder = h .whole .one-holder;
           };
@@ -91,6 +93,8 @@ module _ (P : Program) (R : ℕ → ℕ → Row) where
             counts-256 = length-set (s .counts) (i * 32 + o) n ∙ h .whole .counts-256;
             classes-32 = h .whole .classes-32;
             objects-32 = h .whole .objects-32;
+            some-object = h .whole .some-object;
+            first-class = h .whole .first-class;
             object-class = h .whole .object-class;
             one-holder = λ j k p lj lk lp x z. sole j k p lj lk lp x z (ℕ-discrete p o) (ℕ-discrete j i) (ℕ-discrete k i);
           };
@@ -124,6 +128,8 @@ module _ (P : Program) (R : ℕ → ℕ → Row) where
             counts-256 = h .whole .counts-256;
             classes-32 = length-set (s .classes) (s .objects) c ∙ h .whole .classes-32;
             objects-32 = omega arith;
+            some-object = omega arith;
+            first-class = getD-set-other (s .classes) (s .objects) 0 c 0 (λ q. omega (arith, h .whole .some-object)) ∙ h .whole .first-class;
             object-class = λ o l. class o l (ℕ-discrete o (s .objects));
             one-holder = h .whole .one-holder;
           };

@@ -6,7 +6,7 @@ use mathlib.Core.Bool.{Bool, true, false, cond}
 use native.Mathlib.Omega.{arith}
 use native.Mathlib.Decide.{ℕ-discrete, decLt}
 use lib.Dec.{eqb}
-use lib.ListN.{set, length-set}
+use lib.ListN.{length, set, length-set}
 use borrow.Author.Tests.{eqb-true, eqb-false, eq-eqb, ne-eqb}
 use Rattle.ground.specs.Bounded.{fillFrom}
 use Rattle.ground.proofs.Bools.{and-fst, and-snd}
@@ -110,6 +110,72 @@ module _ (vars : ℕ) (v16 : vars ≤ 16) (n : ℕ) (cls k : ℕ → ℕ) (x : R
       each s l (no q) =
           same-slot n cls _ _ _ _ (value-set-other (t .vars) (t .stack) (t .depth) s u q)
           (slot-pushed-other vars v16 x e s (λ p. q (omega (arith, h .depth-exact))))
+
+  -- ---- athrow: the top alone stays, at the bottom; all below it may go
+  pub throw-stands : 1 ≤ x .depth → ((j : ℕ) → 1 ≤ j → j < x .depth → noEnd ≤ endOf (x .stack j))
+      → Stands vars n cls k (rows.pushed (x .stack 0) (rows.popped (t .depth) x)) (pushed (popped (t .depth) t) (topOf t))
+  unfolding popped
+  throw-stands en g =
+      rw (pushed-is (popped (t .depth) t) (topOf t) (omega arith))
+      (record {
+        sized = record { vars = h .sized .vars; stack = length-set (fillFrom (t .depth - t .depth) (t .depth) zeroSlot (t .stack)) (t .depth - t .depth) (topOf t) ∙ filled };
+        depth-exact = omega (arith, h .depth-exact);
+        balanced = go (ℕ-discrete (t .depth) 1);
+      })
+    where
+      y : Row
+      y = rows.pushed (x .stack 0) (rows.popped (t .depth) x)
+
+      after : ℕ → Value
+      after = valueIn (t .vars) (set (fillFrom (t .depth - t .depth) (t .depth) zeroSlot (t .stack)) (t .depth - t .depth) (topOf t))
+
+      filled : length (fillFrom (t .depth - t .depth) (t .depth) zeroSlot (t .stack)) ≡ 16
+      filled = fill-length (t .depth - t .depth) zeroSlot (t .stack) (t .depth) ∙ h .sized .stack
+
+      stk : (s j : ℕ) → 16 ≤ s → s + j + 1 ≡ 16 + x .depth → 1 ≤ j → noEnd ≤ endOf (slotOf vars x s)
+      stk s j f q l = rw (slot-stack vars v16 x s j f q) (g j l (omega arith))
+
+      -- what is not the top may go
+      out : (s : ℕ) → 16 ≤ s → s ≢ 15 + t .depth → Dec (s < 16 + x .depth) → noEnd ≤ endOf (slotOf vars x s)
+      out s f b (yes e) = stk s (15 + x .depth - s) f (omega arith) (omega (arith, h .depth-exact))
+      out s f b (no e) = rw (slot-nostack vars v16 x s (omega arith)) (omega arith)
+
+      bottom : slotOf vars y 16 ≡ x .stack 0
+      bottom = slot-pushed vars v16 (rows.popped (t .depth) x) (x .stack 0) 16 (omega (arith, h .depth-exact))
+
+      top : slotOf vars x (15 + t .depth) ≡ x .stack 0
+      top = slot-stack vars v16 x (15 + t .depth) 0 (omega (arith, h .depth-exact)) (omega (arith, h .depth-exact))
+
+      value : after 16 ≡ valueOf t (15 + t .depth)
+      value =
+          value-set (t .vars) (fillFrom (t .depth - t .depth) (t .depth) zeroSlot (t .stack)) (t .depth - t .depth) 16 (topOf t) (omega (arith, filled)) (omega arith)
+          ∙ sym (value-entry t (15 + t .depth) 0 (omega (arith, h .depth-exact)) (omega arith))
+
+      each : (s : ℕ) → s < 32 → s ≢ 16 → s ≢ 15 + t .depth → Dec (s < 16) → weights.Slot n cls (slotOf vars x s) (valueOf t s) (slotOf vars y s) (after s)
+      each s l a b (yes f) =
+          same-slot n cls _ _ _ _
+          (value-set-other (t .vars) (fillFrom (t .depth - t .depth) (t .depth) zeroSlot (t .stack)) (t .depth - t .depth) s (topOf t) (omega arith)
+          ∙ value-fill (t .vars) (t .stack) (t .depth - t .depth) (t .depth) s (omega arith))
+          (slot-pushed-other vars v16 (rows.popped (t .depth) x) (x .stack 0) s (omega arith) ∙ slot-popped vars v16 x (t .depth) s (omega (arith, h .depth-exact)) (omega arith))
+      each s l a b (no f) =
+          rw (slot-nostack vars v16 y s (omega (arith, h .depth-exact)))
+          (gone-slot n cls (slotOf vars x s) (valueOf t s) _ (out s (omega arith) b (decLt s (16 + x .depth))))
+
+      one : t .depth ≡ 1 → (s : ℕ) → s < 32 → Dec (s ≡ 16) → weights.Slot n cls (slotOf vars x s) (valueOf t s) (slotOf vars y s) (after s)
+      one d s l (yes q) =
+          let p : 15 + t .depth ≡ 16 = omega arith in
+          rw q (same-slot n cls _ _ _ _ (rw p at value) (bottom ∙ sym (rw p at top)))
+      one d s l (no q) = each s l q (omega arith) (decLt s 16)
+
+      go : Dec (t .depth ≡ 1) → Balanced n cls (slotOf vars y) after k
+      go (yes d) = keep-all n cls (slotOf vars x) (valueOf t) k (slotOf vars y) after (λ s l. one d s l (ℕ-discrete s 16)) (h .balanced)
+      go (no d) =
+          keep-move n cls (slotOf vars x) (valueOf t) k (slotOf vars y) after 16 (15 + t .depth) (omega (arith, h .depth-exact)) (omega arith)
+          (λ s l a b. each s l a b (decLt s 16)) value
+          (slot-nostack vars v16 y (15 + t .depth) (omega (arith, h .depth-exact)))
+          (out 16 (omega arith) (omega (arith, h .depth-exact)) (decLt 16 (16 + x .depth)))
+          (rw (top, bottom) (same-weaker (x .stack 0)))
+          (h .balanced)
 
   -- ---- inc: the top changes in place
   pub inc-stands : 1 ≤ x .depth → isInt (x .stack 0) ≡ true → Stands vars n cls k (rows.pushed Int (rows.popped 1 x)) (topped t (incSlot (topOf t)))

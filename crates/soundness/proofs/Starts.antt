@@ -7,13 +7,13 @@ use native.Mathlib.Omega.{arith}
 use native.Mathlib.Decide.{ℕ-discrete}
 use lib.Dec.{leb, eqb}
 use lib.ListN.{getD, replicate, length-replicate}
-use borrow.Author.Tests.{not-true, leb-true, le-leb, ltb-true, eq-eqb}
+use borrow.Author.Tests.{not-true, leb-true, le-leb, ltb-true}
 use Rattle.ground.specs.Bounded.{setBelow}
 use Rattle.ground.proofs.Bools.{and-fst, and-snd}
 use Rattle.ground.proofs.Bounded.{all-elim, all-intro, first-is}
 use Rattle.ground.proofs.Writes.{set-length}
 use Rattle.bundle.specs.Program.{Program}
-use Rattle.entries.specs.Entries.{Entry, Ref, noEnd, isInt, isOf, matches}
+use Rattle.entries.specs.Entries.{Entry, isInt, isOf, matches}
 use Rattle.entries.specs.Fits.{mayGo}
 use Rattle.rows.specs.Rows.{Row}
 use Rattle.matching.specs.Matching.{wants, edge}
@@ -28,7 +28,7 @@ use Rattle.threads.specs.Threads.{entryOf, withAt, popped, started}
 use Rattle.state.specs.declared.State.{State}
 use Rattle.state.specs.State.{threadAt, countOf, classOf, withThread, notLive, lowestFree}
 use Rattle.machine.specs.Instructions.{isObject, isArgument, argumentAt, argumentsOk, startedBy, startStep}
-use Rattle.soundness.proofs.Kind.{Matches, int-value, of-value, ref-value, argument-kind}
+use Rattle.soundness.proofs.Kind.{Matches, int-value, argument-kind, object-is}
 use Rattle.soundness.proofs.Held.{Fits, held}
 use Rattle.soundness.proofs.Weights.{goes-end}
 use Rattle.soundness.proofs.Values.{value-argument, value-zero}
@@ -40,11 +40,6 @@ use Rattle.soundness.proofs.Goes.{arrives, v16, d16, at-here}
 use Rattle.soundness.proofs.Fresh.{born-live}
 
 -- ---- no fault 13
-object-is : (n : ℕ) (classes : List ℕ) (c : ℕ) (e : Entry) (x : Slot) → isOf c e ≡ true → Matches n (λ o. getD classes o 0) e (x .value) → isObject classes c x ≡ true
-object-is n classes c e x h m =
-    let r = ref-value n (λ o. getD classes o 0) (Ref c 0 noEnd) (x .value) refl (of-value n (λ o. getD classes o 0) c e (x .value) h m) in
-    rw (r .0, eq-eqb _ _ (r .2))
-
 argument-is : (n : ℕ) (classes : List ℕ) (d : ℕ) (e : Entry) (x : Slot) → matches d e ≡ true → Matches n (λ o. getD classes o 0) e (x .value) → isArgument classes d x ≡ true
 unfolding matches isArgument
 argument-is n classes d e x h m = go (eqb d 255) h

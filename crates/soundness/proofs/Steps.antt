@@ -14,7 +14,7 @@ use Rattle.instructions.specs.Table.{targetOk, endsCode, lastOk, instructionOk}
 use Rattle.bundle.specs.Program.{Program}
 use Rattle.rows.specs.Rows.{Row}
 use Rattle.rules.specs.Rule.{rule, holds}
-use Rattle.rules.specs.Rules.{throwRule, ruleOf}
+use Rattle.rules.specs.Rules.{ruleOf}
 use Rattle.values.specs.Values.{objectOf}
 use Rattle.threads.specs.declared.Thread.{Thread}
 use Rattle.threads.specs.Threads.{varOf}
@@ -28,7 +28,7 @@ use Rattle.soundness.proofs.Invariant.{Inv}
 use Rattle.soundness.proofs.Moves.{Good}
 use Rattle.soundness.proofs.Stack.{inc-good, pop-good, push0-good, load-good, store-good, if-good}
 use Rattle.soundness.proofs.Locks.{enter-good, exit-good, leaves-held}
-use Rattle.soundness.proofs.Ends.{throw-good, return-good}
+use Rattle.soundness.proofs.Ends.{athrow-good, return-good}
 use Rattle.soundness.proofs.Makes.{new-good}
 use Rattle.soundness.proofs.Starts.{start-good}
 
@@ -67,7 +67,7 @@ module _ (P : Program) (R : ℕ → ℕ → Row) (A : Accepted P R) (s : State) 
 
   exec-good : (fails : Bool) (x : Instruction) → instructionOk (P .classes) vars code L x ≡ true → holds vars (ruleOf P vars (R C) L x) ≡ true
       → Good P R s i (execOf P s i T (P .method C) fails x)
-  unfolding instructionOk targetOk throwRule
+  unfolding instructionOk targetOk
   exec-good fails Inc h r = inc-good P R A s inv i li lv (next Inc refl h) r
   exec-good fails Pop h r = pop-good P R A s inv i li lv (next Pop refl h) r
   exec-good fails Push0 h r = push0-good P R A s inv i li lv (next Push0 refl h) r
@@ -81,7 +81,7 @@ module _ (P : Program) (R : ℕ → ℕ → Row) (A : Accepted P R) (s : State) 
   exec-good fails (New c a) h r =
       new-good P R A s inv i li lv c a fails (ltb-true _ _ (search (and-fst, and-snd))) (leb-true _ _ (search (and-fst, and-snd))) (next (New c a) refl h) r
   exec-good fails (Start c) h r = start-good P R A s inv i li lv c (ltb-true _ _ (search and-fst)) (next (Start c) refl h) r
-  exec-good fails (Throw a) h r = let q = held vars (throwRule vars (a .0) (R C L) (R C (a .0))) r in throw-good P R A s inv i li lv a (leb-true _ _ (search and-fst)) (q .0) (q .1)
+  exec-good fails (Throw a) h r = athrow-good P R A s inv i li lv a (leb-true _ _ (search and-fst)) r
   exec-good fails Return h r = return-good P R A s inv i li lv r
   exec-good fails Nothing h r = nope (held vars (rule false []) r .0)
 

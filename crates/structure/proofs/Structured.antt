@@ -12,7 +12,7 @@ use Rattle.ground.proofs.Bools.{and-fst, and-snd, or-right}
 use Rattle.ground.proofs.Bounded.{all-elim}
 use Rattle.instructions.specs.Table.{instructionOk}
 use Rattle.bundle.specs.declared.Class.{Class}
-use Rattle.bundle.specs.Container.{classes, classAt, recordFits}
+use Rattle.bundle.specs.Container.{classes, exception, classAt, recordFits}
 use Rattle.bundle.specs.Program.{Program, methodOf, methodAt, programOf}
 use Rattle.structure.specs.Conditions.{lengthOk, directoryOk, mainOk, codeOk, limitsOk, descriptorOk, descriptorsOk, addressOk}
 use Rattle.structure.specs.Places.{whole, directory, limits, extent, descriptors, instruction}
@@ -43,6 +43,7 @@ limited c k e =
 pub record WellFormed (P : Program) : Type 0 where
   pub some-class : 1 ≤ P .classes
   pub few-classes : P .classes ≤ 8
+  pub exception : P .exception < P .classes
   pub main-args : P .method 0 .args ≡ 0
   pub args-vars : (c : ℕ) → c < P .classes → P .method c .args ≤ P .method c .vars
   pub vars-16 : (c : ℕ) → c < P .classes → P .method c .vars ≤ 16
@@ -80,12 +81,18 @@ module _ (b : List ℕ) (e : structureOf b .number ≡ 0) where
       let h = structure-zero b e directory tt in
       (leb-true 1 (classes b) (search (and-fst, and-snd)), leb-true (classes b) 8 (search (and-fst, and-snd)))
 
+  -- the spare byte names a class
+  pub exception-class : exception b < classes b
+  unfolding directoryOk
+  exception-class = let h = structure-zero b e directory tt in ltb-true (exception b) (classes b) (search (and-fst, and-snd))
+
   pub well-formed : WellFormed (programOf b)
   unfolding programOf methodAt methodOf descriptorsOk addressOk
   well-formed =
       record {
         some-class = some-classes .0;
         few-classes = some-classes .1;
+        exception = exception-class;
         main-args = class-limits 0 (some-classes .0) .main-args refl;
         args-vars = λ c l. class-limits c l .args-vars;
         vars-16 = λ c l. class-limits c l .vars-16;

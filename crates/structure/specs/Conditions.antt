@@ -8,23 +8,26 @@ use Rattle.ground.specs.Bytes.{at, be16}
 use Rattle.ground.specs.Bounded.{allBelow}
 use Rattle.instructions.specs.Table.{instructionOk}
 use Rattle.bundle.specs.declared.Class.{Class}
-use Rattle.bundle.specs.Container.{directoryAt, classes, instructionAt}
+use Rattle.bundle.specs.Container.{directoryAt, classes, exception, instructionAt}
 
 -- 1: length below 8 or above 65,535
 unfoldable pub lengthOk : List ℕ → Bool
 lengthOk b = leb 8 (length b) && leb (length b) 65535
 
--- 2: trailer bytes (4C 4B), spare byte or length wrong
+-- 2: trailer bytes (4C 4B) or length wrong (the spare byte is 3's since document 02, Q-6)
 unfoldable pub trailerOk : List ℕ → Bool
 trailerOk b =
     eqb (at b (length b - 2)) 76
     && eqb (at b (length b - 1)) 75
-    && eqb (at b (length b - 5)) 0
     && eqb (be16 b (length b - 4)) (length b)
 
--- 3: class count not 1..8, or directory passes length - 8
+-- 3: class count not 1..8, or directory passes length - 8, or the spare byte names no class
 unfoldable pub directoryOk : List ℕ → Bool
-directoryOk b = leb 1 (classes b) && leb (classes b) 8 && leb (directoryAt b + 8 * classes b) (length b - 8)
+directoryOk b =
+    leb 1 (classes b)
+    && leb (classes b) 8
+    && leb (directoryAt b + 8 * classes b) (length b - 8)
+    && ltb (exception b) (classes b)
 
 -- class 0 is main and has n = 0
 unfoldable pub mainOk : ℕ → Class → Bool

@@ -27,7 +27,6 @@ fn trailer_ok(b: &[u8]) -> bool
 {
     (ground::byte(b, ground::back(b, 2)) == 76)
         & (ground::byte(b, ground::back(b, 1)) == 75)
-        & (ground::byte(b, ground::back(b, 5)) == 0)
         & (ground::word(b, ground::back(b, 4)) as usize == b.len())
 }
 
@@ -38,6 +37,7 @@ fn directory_ok(b: &[u8]) -> bool
     (1 <= n)
         & (n <= 8)
         & (bundle::directory_at(b) as usize + 8 * (n as usize) <= ground::back(b, 8))
+        & (bundle::exception(b) < n)
 }
 
 fn head(b: &[u8]) -> Verdict

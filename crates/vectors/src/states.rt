@@ -8,7 +8,7 @@ fn byte(x: u32) -> u8 {
     (x % 256) as u8
 }
 
-// Nothing live, no object, all else 0. Written out, and not the state crate's own, so that the fresh machine is held against something else.
+// Nothing live, object 0 of class 0, all else 0. Written out, and not the state crate's own, so that the fresh machine is held against something else.
 pub(crate) fn blank() -> State {
     let zero = values::int_slot(0);
     let t = Thread {
@@ -22,7 +22,7 @@ pub(crate) fn blank() -> State {
     State {
         threads: [t; 8],
         counts: [0u16; 256],
-        objects: 0,
+        objects: 1,
         classes: [0u8; 32],
     }
 }

@@ -15,6 +15,12 @@ returns : tie.Need-returns
 unfolding freshOf refuse
 returns c = rw (c .before .before .before .empty-state .ensures, rw (c .before .before .structure .ensures) at (ne-eqb _ _ (c .if1 .taken)))
 
+exception-requires : tie.Need-exception-requires
+exception-requires c κs = search needs
+
+add-object-requires : tie.Need-add-object-requires
+add-object-requires c κs = search needs
+
 main-thread-requires : tie.Need-main-thread-requires
 main-thread-requires c κs = search needs
 
@@ -23,7 +29,7 @@ put-thread-requires c κs = search needs
 
 returns-2 : tie.Need-returns-2
 unfolding freshOf refuse
-returns-2 c = rw (c .put-thread .ensures, c .before .main-thread .ensures, c .before .before .before .before .before .empty-state .ensures, rw (c .before .before .before .before .structure .ensures) at (eq-eqb _ _ (c .before .before .if1 .left)))
+returns-2 c = rw (c .put-thread .ensures, c .before .main-thread .ensures, c .before .before .add-object .ensures, c .before .before .before .exception .ensures, c .before .before .before .before .before .before .before .empty-state .ensures, rw (c .before .before .before .before .before .before .structure .ensures) at (eq-eqb _ _ (c .before .before .before .before .if1 .left)))
 
 pub fresh-spec : {M : Type 1} → statement M
 fresh-spec =
@@ -32,6 +38,8 @@ fresh-spec =
     empty-state-requires
     structure-requires
     returns
+    exception-requires
+    add-object-requires
     main-thread-requires
     put-thread-requires
     returns-2)

@@ -87,11 +87,11 @@ start-class-requires c κs = next-fits _ (c .before .before .before .before .bef
 enum-known-x-8 : tie.Need-enum-known-x-8
 enum-known-x-8 c = search needs
 
-throw-turn-requires : tie.Need-throw-turn-requires
-throw-turn-requires c κs = search needs
+exception-requires : tie.Need-exception-requires
+exception-requires c κs = search needs
 
-settle-requires : tie.Need-settle-requires
-settle-requires c κs = search needs
+athrow-step-requires : tie.Need-athrow-step-requires
+athrow-step-requires c κs = search needs
 
 enum-told-4 : tie.Need-enum-told-4
 enum-told-4 c = search needs
@@ -99,8 +99,8 @@ enum-told-4 c = search needs
 end-turn-requires : tie.Need-end-turn-requires
 end-turn-requires c κs = search needs
 
-settle-requires-2 : tie.Need-settle-requires-2
-settle-requires-2 c κs = search needs
+settle-requires : tie.Need-settle-requires
+settle-requires c κs = search needs
 
 enum-told-5 : tie.Need-enum-told-5
 enum-told-5 c = search needs
@@ -160,16 +160,16 @@ returns-11 c =
     (rw (c .start-class .ensures, c .before .before .x7 .given .1))
 
 returns-12 : tie.Need-returns-12
-unfolding methodOf
+unfolding methodOf programOf
 returns-12 c =
-    runs _ (c .before .before .before .before .before .before .before .before .before .before .before .before .before .before .before .args .t2) _ _ (search (needs, length-mapped, c .before .before .before .before .before .before .before .before .before .before .before .before .before .before .before .good)) (c .before .before .before .before .before .before .before .before .before .before .before .before .before .before .before .pre) _ (c .before .before .before .before .before .before .before .before .before .before .before .if1 .left) (c .before .before .before .before .before .before .before .before .before .before .class-at .ensures) (c .before .before .before .before .before .before .before .before .before .part-of .ensures) (c .before .before .before .before .before .before .before .before .instruction-at .ensures)
-    (rw (c .before .before .before .before .before .before .x8 .given .1) (c .settle .ensures ∙ c .before .throw-turn .ensures _ refl))
+    runs _ (c .before .before .before .before .before .before .before .before .before .before .before .before .args .t2) _ _ (search (needs, length-mapped, c .before .before .before .before .before .before .before .before .before .before .before .before .good)) (c .before .before .before .before .before .before .before .before .before .before .before .before .pre) _ (c .before .before .before .before .before .before .before .before .if1 .left) (c .before .before .before .before .before .before .before .class-at .ensures) (c .before .before .before .before .before .before .part-of .ensures) (c .before .before .before .before .before .instruction-at .ensures)
+    (rw (c .athrow-step .ensures, c .before .exception .ensures, c .before .before .before .x8 .given .1))
 
 returns-13 : tie.Need-returns-13
 unfolding methodOf
 returns-13 c =
     runs _ (c .before .before .before .before .before .before .before .before .before .before .before .before .before .before .args .t2) _ _ (search (needs, length-mapped, c .before .before .before .before .before .before .before .before .before .before .before .before .before .before .good)) (c .before .before .before .before .before .before .before .before .before .before .before .before .before .before .pre) _ (c .before .before .before .before .before .before .before .before .before .before .if1 .left) (c .before .before .before .before .before .before .before .before .before .class-at .ensures) (c .before .before .before .before .before .before .before .before .part-of .ensures) (c .before .before .before .before .before .before .before .instruction-at .ensures)
-    (rw (c .before .before .before .before .before .enum-told4 .given .1) (c .settle2 .ensures ∙ c .before .end-turn .ensures _ refl))
+    (rw (c .before .before .before .before .before .enum-told4 .given .1) (c .settle .ensures ∙ c .before .end-turn .ensures _ refl))
 
 returns-14 : tie.Need-returns-14
 returns-14 c =
@@ -207,11 +207,11 @@ run-spec =
     enum-known-x-7
     start-class-requires
     enum-known-x-8
-    throw-turn-requires
-    settle-requires
+    exception-requires
+    athrow-step-requires
     enum-told-4
     end-turn-requires
-    settle-requires-2
+    settle-requires
     enum-told-5
     returns-2
     returns-3

@@ -1,9 +1,18 @@
-use Rattle.rules.proofs.Judging.{ruling-more}
-use Rattle.rules.specs.Rules.{newRule}
+use Rattle.rows.specs.Rows.{stackAt}
+use Rattle.rules.proofs.Rules.{new-ruling}
 use mathlib.Core.Path.{sym, _∙_}
 use borrow.Author.Needs.{needs}
 use Rattle.rules.proofs.new_rule.Statement.{statement}
 use Rattle.rules.proofs.new_rule.Tie as tie
+
+stack-word-requires : tie.Need-stack-word-requires
+stack-word-requires c κs = search needs
+
+compare-made-requires : tie.Need-compare-made-requires
+compare-made-requires c κs = search needs
+
+stack-goes-requires : tie.Need-stack-goes-requires
+stack-goes-requires c κs = search needs
 
 throw-asks-requires : tie.Need-throw-asks-requires
 throw-asks-requires c κs = search needs
@@ -30,13 +39,16 @@ judged-requires : tie.Need-judged-requires
 judged-requires c κs = search needs
 
 returns : tie.Need-returns
-unfolding newRule
-returns c = (rw (c .before .before .before .before .before .before .throw-asks .ensures, c .before .before .before .before .before .depth-of .ensures .0, c .before .before .before .before .depth-of2 .ensures .0, c .before .then-short .ensures, c .before .before .before .made-edge .ensures, c .before .before .thrown-short .ensures) at (c .judged .ensures)) ∙ sym (ruling-more _ _ _ _)
+unfolding stackAt
+returns c = (rw (c .before .then-short .ensures, c .before .before .thrown-short .ensures, c .before .before .before .made-edge .ensures, c .before .before .before .before .depth-of2 .ensures .0, c .before .before .before .before .before .depth-of .ensures .0, c .before .before .before .before .before .before .throw-asks .ensures, c .before .before .before .before .before .before .before .stack-goes .ensures, c .before .before .before .before .before .before .before .before .compare-made .ensures, c .before .before .before .before .before .before .before .before .before .stack-word .ensures) at (c .judged .ensures)) ∙ sym (new-ruling _ _ _ _ _ _ _)
 
 pub new-rule-spec : {M : Type 1} → statement M
 new-rule-spec =
     tie.close
     (tie.spec
+    stack-word-requires
+    compare-made-requires
+    stack-goes-requires
     throw-asks-requires
     depth-of-requires
     add-judged

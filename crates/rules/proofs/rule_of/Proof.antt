@@ -1,6 +1,7 @@
 use borrow.Author.Tests.{ne-eqb}
 use Rattle.instructions.specs.Table.{instructionOf}
 use Rattle.ground.specs.Chain.{refuse}
+use Rattle.bundle.specs.Program.{programOf}
 use Rattle.rules.specs.Rule.{ruling, asked}
 use Rattle.rules.proofs.Rules.{zeroed-rule}
 use borrow.Author.Needs.{needs}
@@ -76,6 +77,9 @@ exit-rule-requires c κs = search needs
 zeroed-requires-11 : tie.Need-zeroed-requires-11
 zeroed-requires-11 c κs = search needs
 
+exception-requires : tie.Need-exception-requires
+exception-requires c κs = search needs
+
 new-rule-requires : tie.Need-new-rule-requires
 new-rule-requires c κs = search needs
 
@@ -84,6 +88,9 @@ start-of-requires c κs = search needs
 
 zeroed-requires-12 : tie.Need-zeroed-requires-12
 zeroed-requires-12 c κs = search needs
+
+exception-requires-2 : tie.Need-exception-requires-2
+exception-requires-2 c κs = search needs
 
 throw-rule-requires : tie.Need-throw-rule-requires
 throw-rule-requires c κs = search needs
@@ -133,16 +140,16 @@ unfolding instructionOf
 returns-8 c = rw (c .before .before .match .keys8, zeroed-rule _ _ _ _ _ _, ← c .before .before .before .before .before .row-start .ensures, ← c .before .before .before .before .next-start .ensures, ← c .before .exit-rule .ensures) (c .zeroed11 .ensures)
 
 returns-9 : tie.Need-returns-9
-unfolding instructionOf
-returns-9 c = rw (c .before .match .keys9, ← c .before .before .before .before .row-start .ensures, ← c .before .before .before .next-start .ensures, ← c .before .before .row-start2 .ensures) (c .new-rule .ensures)
+unfolding instructionOf programOf
+returns-9 c = rw (c .before .before .match .keys9, ← c .before .before .before .before .before .row-start .ensures, ← c .before .before .before .before .next-start .ensures, ← c .before .before .before .row-start2 .ensures, ← c .before .exception .ensures) (c .new-rule .ensures)
 
 returns-10 : tie.Need-returns-10
 unfolding instructionOf
 returns-10 c = rw (c .before .before .match .keys10, zeroed-rule _ _ _ _ _ _, ← c .before .before .before .before .before .row-start .ensures, ← c .before .before .before .before .next-start .ensures, ← c .before .start-of .ensures) (c .zeroed12 .ensures)
 
 returns-11 : tie.Need-returns-11
-unfolding instructionOf
-returns-11 c = rw (c .before .before .match .keys11, zeroed-rule _ _ _ _ _ _, ← c .before .before .before .before .before .row-start .ensures, ← c .before .before .before .row-start2 .ensures, ← c .before .throw-rule .ensures) (c .zeroed13 .ensures)
+unfolding instructionOf programOf
+returns-11 c = rw (c .before .before .before .match .keys11, zeroed-rule _ _ _ _ _ _, ← c .before .before .before .before .before .before .row-start .ensures, ← c .before .before .before .before .row-start2 .ensures, ← c .before .before .exception2 .ensures, ← c .before .throw-rule .ensures) (c .zeroed13 .ensures)
 
 returns-12 : tie.Need-returns-12
 unfolding instructionOf
@@ -179,9 +186,11 @@ rule-of-spec =
     zeroed-requires-10
     exit-rule-requires
     zeroed-requires-11
+    exception-requires
     new-rule-requires
     start-of-requires
     zeroed-requires-12
+    exception-requires-2
     throw-rule-requires
     zeroed-requires-13
     return-rule-requires

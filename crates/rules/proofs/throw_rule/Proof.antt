@@ -1,9 +1,30 @@
-use Rattle.rules.specs.Rules.{throwRule}
-use Rattle.rules.specs.Rule.{ruling, asked, shortOf}
+use Rattle.rows.specs.Rows.{stackAt}
+use Rattle.rules.proofs.Rules.{throw-ruling}
 use mathlib.Core.Path.{sym, _∙_}
 use borrow.Author.Needs.{needs}
 use Rattle.rules.proofs.throw_rule.Statement.{statement}
 use Rattle.rules.proofs.throw_rule.Tie as tie
+
+stack-word-requires : tie.Need-stack-word-requires
+stack-word-requires c κs = search needs
+
+stack-word-requires-2 : tie.Need-stack-word-requires-2
+stack-word-requires-2 c κs = search needs
+
+compare-requires : tie.Need-compare-requires
+compare-requires c κs = search needs
+
+depth-of-requires : tie.Need-depth-of-requires
+depth-of-requires c κs = search needs
+
+is-of-requires : tie.Need-is-of-requires
+is-of-requires c κs = search needs
+
+rest-goes-requires : tie.Need-rest-goes-requires
+rest-goes-requires c κs = search needs
+
+may-go-requires : tie.Need-may-go-requires
+may-go-requires c κs = search needs
 
 throw-asks-requires : tie.Need-throw-asks-requires
 throw-asks-requires c κs = search needs
@@ -15,9 +36,21 @@ judged-requires : tie.Need-judged-requires
 judged-requires c κs = search needs
 
 returns : tie.Need-returns
-unfolding throwRule ruling asked shortOf
-returns c = (rw (c .before .before .throw-asks .ensures, c .before .thrown-short .ensures) at (c .judged .ensures))
+unfolding stackAt
+returns c = (rw (c .before .thrown-short .ensures, c .before .before .throw-asks .ensures, c .before .before .before .may-go .ensures, c .before .before .before .before .rest-goes .ensures, c .before .before .before .before .before .is-of .ensures, c .before .before .before .before .before .before .depth-of .ensures .0, c .before .before .before .before .before .before .before .compare .ensures, c .before .before .before .before .before .before .before .before .stack-word2 .ensures, c .before .before .before .before .before .before .before .before .before .stack-word .ensures) at (c .judged .ensures)) ∙ sym (throw-ruling _ _ _ _ _)
 
 pub throw-rule-spec : {M : Type 1} → statement M
 throw-rule-spec =
-    tie.close (tie.spec throw-asks-requires thrown-short-requires judged-requires returns)
+    tie.close
+    (tie.spec
+    stack-word-requires
+    stack-word-requires-2
+    compare-requires
+    depth-of-requires
+    is-of-requires
+    rest-goes-requires
+    may-go-requires
+    throw-asks-requires
+    thrown-short-requires
+    judged-requires
+    returns)

@@ -24,9 +24,12 @@ add-result c = search needs
 back-requires : tie.Need-back-requires
 back-requires c κs = search needs
 
+exception-requires : tie.Need-exception-requires
+exception-requires c κs = search needs
+
 returns : tie.Need-returns
 unfolding directoryOk
-returns c = rw (c .before .before .classes .ensures, c .before .directory-at .ensures, c .back .ensures)
+returns c = rw (c .before .before .before .classes .ensures, c .before .before .directory-at .ensures, c .before .back .ensures, c .exception .ensures)
 
 pub directory-ok-spec : {M : Type 1} → statement M
 directory-ok-spec =
@@ -39,4 +42,5 @@ directory-ok-spec =
     mul-result
     add-result
     back-requires
+    exception-requires
     returns)

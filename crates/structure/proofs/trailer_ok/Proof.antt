@@ -18,12 +18,6 @@ byte-requires-2 c κs = search needs
 back-requires-3 : tie.Need-back-requires-3
 back-requires-3 c κs = search needs
 
-byte-requires-3 : tie.Need-byte-requires-3
-byte-requires-3 c κs = search needs
-
-back-requires-4 : tie.Need-back-requires-4
-back-requires-4 c κs = search needs
-
 word-requires : tie.Need-word-requires
 word-requires c κs = search needs
 
@@ -32,7 +26,7 @@ cast-result c = search needs
 
 returns : tie.Need-returns
 unfolding trailerOk
-returns c = rw (c .before .before .before .before .before .before .byte .ensures, c .before .before .before .before .before .before .before .back .ensures, c .before .before .before .before .byte2 .ensures, c .before .before .before .before .before .back2 .ensures, c .before .before .byte3 .ensures, c .before .before .before .back3 .ensures, c .word .ensures, c .before .back4 .ensures)
+returns c = rw (c .before .before .before .before .byte .ensures, c .before .before .before .before .before .back .ensures, c .before .before .byte2 .ensures, c .before .before .before .back2 .ensures, c .word .ensures, c .before .back3 .ensures)
 
 pub trailer-ok-spec : {M : Type 1} → statement M
 trailer-ok-spec =
@@ -43,8 +37,6 @@ trailer-ok-spec =
     back-requires-2
     byte-requires-2
     back-requires-3
-    byte-requires-3
-    back-requires-4
     word-requires
     cast-result
     returns)

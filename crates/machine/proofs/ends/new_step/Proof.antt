@@ -5,6 +5,9 @@ use borrow.Author.Needs.{needs}
 use Rattle.machine.proofs.ends.new_step.Statement.{statement}
 use Rattle.machine.proofs.ends.new_step.Tie as tie
 
+ref-slot-requires : tie.Need-ref-slot-requires
+ref-slot-requires c κs = search needs
+
 throw-turn-requires : tie.Need-throw-turn-requires
 throw-turn-requires c κs = search needs
 
@@ -15,9 +18,9 @@ returns : tie.Need-returns
 unfolding newStep
 returns c =
     ⊎-elim
-    (λ w. rw (w .taken) (c .settle .ensures ∙ c .before .throw-turn .ensures _ refl))
-    (λ w. rw (w .0 .left, w .1 .taken) (c .settle .ensures ∙ c .before .throw-turn .ensures _ refl))
-    (c .before .before .before .before .before .if1 .came)
+    (λ w. rw (w .taken, ← c .before .before .ref-slot .ensures) (c .settle .ensures ∙ c .before .throw-turn .ensures _ refl))
+    (λ w. rw (w .0 .left, w .1 .taken, ← c .before .before .ref-slot .ensures) (c .settle .ensures ∙ c .before .throw-turn .ensures _ refl))
+    (c .before .before .before .before .before .before .if1 .came)
 
 make-step-requires : tie.Need-make-step-requires
 make-step-requires c κs = search needs
@@ -28,4 +31,11 @@ returns-2 c = rw (c .make-step .ensures, c .before .before .if1 .left, c .before
 
 pub new-step-spec : {M : Type 1} → statement M
 new-step-spec =
-    tie.close (tie.spec throw-turn-requires settle-requires returns make-step-requires returns-2)
+    tie.close
+    (tie.spec
+    ref-slot-requires
+    throw-turn-requires
+    settle-requires
+    returns
+    make-step-requires
+    returns-2)

@@ -1,0 +1,63 @@
+use Prim.Native.Nat.{_≤_, _-_}
+use mathlib.Core.Path.{_≡_}
+use mathlib.Core.Bool.{true}
+use native.Mathlib.Omega.{arith}
+use Rattle.ground.specs.Bounded.{allBelow}
+use Rattle.ground.proofs.Bounded.{all-zero, all-more, all-left, all-done}
+use Rattle.ground.proofs.Bools.{passed, failed}
+use Rattle.matching.specs.Matching.{popped, entryGoes, stackGoes}
+use Rattle.rows.specs.Rows.{rowFrom}
+use borrow.Author.Needs.{needs}
+use Rattle.matching.proofs.rest_goes.Statement.{statement}
+use Rattle.matching.proofs.rest_goes.Tie as tie
+
+abbrev Inv-loop : tie.InvT-loop
+Inv-loop n k r p rest j₀ j = (j ≤ rest) × (allBelow j (entryGoes (popped 1 (rowFrom n r (k .vars) p))) ≡ true)
+
+abbrev μ-loop : tie.MeasureT-loop
+μ-loop n k r p rest j₀ j = rest - j
+
+depth-left-requires : tie.Need-depth-left-requires Inv-loop μ-loop
+depth-left-requires c κs = search needs
+
+cast-rest : tie.Need-cast-rest Inv-loop μ-loop
+cast-rest c = search needs
+
+loop-holds : tie.Need-loop-holds Inv-loop μ-loop
+loop-holds c = search (needs, all-zero)
+
+below-goes-requires : tie.Need-below-goes-requires Inv-loop μ-loop
+below-goes-requires c κs = omega (arith, c .before .before .depth-left .ensures .1)
+
+returns : tie.Need-returns Inv-loop μ-loop
+unfolding stackGoes
+returns c = rw (← c .before .before .before .before .depth-left .ensures .0) (all-left _ _ _ (c .before .before .loop-test .taken) (failed (c .before .below-goes .ensures) (c .if1 .taken)))
+
+add-j : tie.Need-add-j Inv-loop μ-loop
+add-j c = search needs
+
+loop-less : tie.Need-loop-less Inv-loop μ-loop
+loop-less c = search needs
+
+loop-again : tie.Need-loop-again Inv-loop μ-loop
+loop-again c = (search needs, all-more _ _ (c .before .before .before .loop .inv .1) (passed (c .before .below-goes .ensures) (c .if1 .left)))
+
+returns-2 : tie.Need-returns-2 Inv-loop μ-loop
+unfolding stackGoes
+returns-2 c = rw (← c .before .before .depth-left .ensures .0) (all-done _ _ _ (c .before .loop .inv .0) (c .loop-test .left) (c .before .loop .inv .1))
+
+pub rest-goes-spec : {M : Type 1} → statement M
+rest-goes-spec =
+    tie.close
+    (tie.spec
+    Inv-loop
+    μ-loop
+    depth-left-requires
+    cast-rest
+    loop-holds
+    below-goes-requires
+    returns
+    add-j
+    loop-less
+    loop-again
+    returns-2)
