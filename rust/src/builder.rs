@@ -66,16 +66,44 @@ impl Method {
     }
 }
 
+/// A bundle before it is laid out: the classes' methods, and the class of
+/// what is thrown.
+#[derive(Clone, Debug, Default, PartialEq, Eq)]
+pub struct Draft {
+    pub methods: Vec<Method>,
+    pub exception: u8,
+}
+
+impl Draft {
+    /// The plain layout: records from 0 in order, directory, trailer.
+    pub fn lay_out(&self) -> Vec<u8> {
+        let mut layout = Layout::throwing(self.exception);
+        for method in &self.methods {
+            layout.place(method);
+        }
+        layout.finish()
+    }
+}
+
 /// A bundle being laid out freely: padding, shared records, any order.
 #[derive(Clone, Debug, Default)]
 pub struct Layout {
     bytes: Vec<u8>,
     directory: Vec<[u8; DIRECTORY_ENTRY]>,
+    exception: u8,
 }
 
 impl Layout {
+    /// With exception class 0.
     pub fn new() -> Layout {
         Layout::default()
+    }
+
+    pub fn throwing(exception: u8) -> Layout {
+        Layout {
+            exception,
+            ..Layout::default()
+        }
     }
 
     pub fn len(&self) -> usize {
@@ -109,7 +137,7 @@ impl Layout {
         let at = self.bytes.len();
         self.bytes.extend(self.directory.concat());
         let count = self.directory.len();
-        seal(self.bytes, at, count)
+        seal(self.bytes, at, count, self.exception)
     }
 
     /// Overwrites the bytes at `at` with the directory, then adds the trailer.
@@ -119,27 +147,27 @@ impl Layout {
             .resize(self.bytes.len().max(at + directory.len()), 0);
         self.bytes[at..at + directory.len()].copy_from_slice(&directory);
         let count = self.directory.len();
-        seal(self.bytes, at, count)
+        seal(self.bytes, at, count, self.exception)
     }
 }
 
 /// Adds the trailer that points back at the directory.
-pub fn seal(mut bytes: Vec<u8>, directory: usize, count: usize) -> Vec<u8> {
+pub fn seal(mut bytes: Vec<u8>, directory: usize, count: usize, exception: u8) -> Vec<u8> {
     let length = (bytes.len() + TRAILER) as u16;
     bytes.extend((directory as u16).to_be_bytes());
-    bytes.extend([count as u8, 0]);
+    bytes.extend([count as u8, exception]);
     bytes.extend(length.to_be_bytes());
     bytes.extend(MAGIC);
     bytes
 }
 
-/// The plain layout: records from 0 in order, directory, trailer.
+/// The plain layout of a bundle that throws class 0, as in the cases.
 pub fn lay_out(methods: &[Method]) -> Vec<u8> {
-    let mut layout = Layout::new();
-    for method in methods {
-        layout.place(method);
-    }
-    layout.finish()
+    let draft = Draft {
+        methods: methods.to_vec(),
+        exception: 0,
+    };
+    draft.lay_out()
 }
 
 /// Case A of the document, from which B and C are made.

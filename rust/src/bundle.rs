@@ -101,6 +101,14 @@ pub struct RawRow<'a> {
 pub struct Bundle<'a> {
     classes: [Class<'a>; MAX_CLASSES],
     count: u8,
+    exception: u8,
+}
+
+/// What the trailer says of a bundle without the verdicts 1 to 3.
+struct Trailer {
+    directory: usize,
+    count: u8,
+    exception: u8,
 }
 
 fn two(bytes: &[u8], at: usize) -> usize {
@@ -197,7 +205,11 @@ impl<'a> Class<'a> {
 impl<'a> Bundle<'a> {
     /// Verdicts 1 to 6: 1 to 3 first, then 4, 5, 6 class by class.
     pub fn open(bytes: &'a [u8]) -> Result<Bundle<'a>, Verdict> {
-        let (directory, count) = read_trailer(bytes)?;
+        let Trailer {
+            directory,
+            count,
+            exception,
+        } = read_trailer(bytes)?;
         let body = &bytes[..bytes.len() - TRAILER];
         let mut classes = [Class::default(); MAX_CLASSES];
         for class in 0..count {
@@ -205,7 +217,11 @@ impl<'a> Bundle<'a> {
             let entry = &body[start..start + DIRECTORY_ENTRY];
             classes[usize::from(class)] = read_class(body, entry, class, count)?;
         }
-        Ok(Bundle { classes, count })
+        Ok(Bundle {
+            classes,
+            count,
+            exception,
+        })
     }
 
     /// Verdicts 1 to 7, which is all that the machine asks of a bundle.
@@ -231,6 +247,11 @@ impl<'a> Bundle<'a> {
         self.count
     }
 
+    /// The class of object 0 and of all that is thrown.
+    pub fn exception(&self) -> u8 {
+        self.exception
+    }
+
     pub fn class(&self, number: u8) -> &Class<'a> {
         &self.classes[..usize::from(self.count)][usize::from(number)]
     }
@@ -240,22 +261,29 @@ impl<'a> Bundle<'a> {
     }
 }
 
-/// Verdicts 1 to 3; gives the directory's offset and the class count.
-fn read_trailer(bytes: &[u8]) -> Result<(usize, u8), Verdict> {
+/// Verdicts 1 to 3.
+fn read_trailer(bytes: &[u8]) -> Result<Trailer, Verdict> {
     let length = bytes.len();
     if !(TRAILER..=MAX_LENGTH).contains(&length) {
         return Err(Verdict::new(1, 0, 0));
     }
     let trailer = &bytes[length - TRAILER..];
-    if trailer[6..] != MAGIC || trailer[3] != 0 || two(trailer, 4) != length {
+    if trailer[6..] != MAGIC || two(trailer, 4) != length {
         return Err(Verdict::new(2, 0, 0));
     }
-    let (directory, count) = (two(trailer, 0), trailer[2]);
+    let (directory, count, exception) = (two(trailer, 0), trailer[2], trailer[3]);
     let end = directory + DIRECTORY_ENTRY * usize::from(count);
-    if !(1..=MAX_CLASSES).contains(&usize::from(count)) || end > length - TRAILER {
+    if !(1..=MAX_CLASSES).contains(&usize::from(count))
+        || end > length - TRAILER
+        || exception >= count
+    {
         return Err(Verdict::new(3, 0, 0));
     }
-    Ok((directory, count))
+    Ok(Trailer {
+        directory,
+        count,
+        exception,
+    })
 }
 
 /// Verdicts 4 to 6 of one class; `body` is all before the trailer.

@@ -1,6 +1,6 @@
 //! The four-byte entries of a row, and how one compares with another.
 
-use crate::slips::Slips;
+use crate::slips::{Slip, Slips};
 
 /// An entry as it stands in the bundle.
 pub type Raw = [u8; 4];
@@ -29,6 +29,14 @@ pub enum Why {
 
 /// What a comparison, or a whole rule, comes to: it holds when nothing fails.
 pub type Outcome = Result<(), Why>;
+
+/// What a rule asks before it compares anything.
+pub fn ask(holds: bool) -> Outcome {
+    match holds {
+        true => Ok(()),
+        false => Err(Why::Asked),
+    }
+}
 
 /// The type of one variable or one stack place.
 #[derive(Clone, Copy, Debug, PartialEq, Eq)]
@@ -127,6 +135,11 @@ impl Entry {
         }
     }
 
+    /// A reference of this class, whatever its pair.
+    pub fn is_of(self, wanted: u8) -> bool {
+        matches!(self, Entry::Ref { class, .. } if class == wanted)
+    }
+
     /// The rule "Fits", and what is short where it fails.
     pub fn compare(self, next: Entry) -> Outcome {
         match (self, next) {
@@ -148,7 +161,7 @@ impl Entry {
     pub fn may_go(self, slips: &Slips) -> bool {
         match self {
             Entry::Int | Entry::Top => true,
-            Entry::Ref { pair, .. } => pair.end >= if slips.may_go_minus_one { -1 } else { 0 },
+            Entry::Ref { pair, .. } => pair.end >= -i16::from(slips.has(Slip::MayGoMinusOne)),
         }
     }
 

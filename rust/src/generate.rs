@@ -1,5 +1,6 @@
 //! Bundles by seed: the same seed always gives the same bundle.
 
+mod branching;
 pub mod damage;
 pub mod edges;
 mod faults;
@@ -9,10 +10,10 @@ pub mod random;
 mod settle;
 pub mod sized;
 mod tempt;
+mod throwing;
 pub mod typed;
 mod writer;
 
-use crate::builder::lay_out;
 use crate::rng::Rng;
 use crate::slips::Slip;
 
@@ -45,12 +46,12 @@ impl Family {
         (Family::Bytes, 7),
         (Family::Structured, 6),
         (Family::StructuredDamaged, 6),
-        (Family::Typed, 25),
-        (Family::TypedDamaged, 20),
+        (Family::Typed, 24),
+        (Family::TypedDamaged, 18),
         (Family::Faulty, 8),
         (Family::Probe, 14),
-        (Family::Edge, 8),
-        (Family::Tempting, 6),
+        (Family::Edge, 7),
+        (Family::Tempting, 10),
     ];
 
     fn choose(rng: &mut Rng) -> Family {
@@ -68,20 +69,20 @@ impl Family {
     pub fn make(self, rng: &mut Rng) -> Vec<u8> {
         match self {
             Family::Bytes => random::bytes(rng),
-            Family::Structured => random::structured(rng),
+            Family::Structured => random::structured(rng).lay_out(),
             Family::StructuredDamaged => {
-                let methods = random::structured_methods(rng);
-                damage::damage(rng, lay_out(&methods))
+                let draft = random::structured(rng);
+                damage::damage(rng, draft.lay_out())
             }
             Family::Typed => typed::well_typed(rng),
             Family::TypedDamaged => {
-                let methods = typed::well_typed_methods(rng, None);
-                damage::damage(rng, lay_out(&methods))
+                let bundle = typed::well_typed(rng);
+                damage::damage(rng, bundle)
             }
             Family::Faulty => {
-                let mut methods = typed::well_typed_methods(rng, None);
-                faults::break_some_rule(rng, &mut methods);
-                lay_out(&methods)
+                let mut draft = typed::draft(rng, None);
+                faults::break_some_rule(rng, &mut draft.methods);
+                draft.lay_out()
             }
             Family::Probe => probes::probe(rng),
             Family::Edge => edges::edge(rng),

@@ -17,5 +17,6 @@ pub mod rng;
 pub mod rules;
 pub mod schedule;
 pub mod slips;
+mod throws;
 pub mod trace;
 pub mod verify;

@@ -1,12 +1,14 @@
 //! The machine: a fresh state, and one step of one thread.
 
 use crate::bundle::{Addr, Bundle, Class, Instr, Var, INT};
-use crate::slips::Slips;
+use crate::slips::{Slip, Slips};
 
 pub const THREADS: usize = 8;
 pub const OBJECTS: usize = 32;
 pub const PLACES: usize = 16;
 pub const MAX_COUNT: u16 = 2_047;
+/// The object that is there from the start, and that a failed new throws.
+pub const THROWN_BY_NEW: u8 = 0;
 
 /// The answers of a step, by their numbers in the document.
 pub mod answer {
@@ -116,11 +118,13 @@ impl State {
 /// A fresh machine: 0 and the state, or 17 and the empty state.
 pub fn fresh(b: &[u8]) -> (u8, State) {
     let mut state = State::EMPTY;
-    if Bundle::open_with_code(b).is_err() {
+    let Ok(bundle) = Bundle::open_with_code(b) else {
         return (answer::BAD_BUNDLE, state);
-    }
+    };
     state.threads[0].live = true;
     state.threads[0].address = 1;
+    state.objects = 1;
+    state.classes[usize::from(THROWN_BY_NEW)] = bundle.exception();
     (answer::WENT_ON, state)
 }
 
@@ -170,6 +174,8 @@ fn admit(bundle: &Bundle, state: &State, thread: u8) -> Result<usize, u8> {
 pub fn belongs(bundle: &Bundle, state: &State) -> bool {
     let objects = usize::from(state.objects);
     objects <= OBJECTS
+        && state.objects > THROWN_BY_NEW
+        && state.classes[usize::from(THROWN_BY_NEW)] == bundle.exception()
         && state.classes[..objects]
             .iter()
             .all(|&class| class < bundle.count())
@@ -244,11 +250,18 @@ impl Turn<'_> {
             Instr::Push0 | Instr::Load(_) => self.wants_room(state, class),
             Instr::Enter(v) => self.refuses_enter(state, v),
             Instr::Exit(v) => self.refuses_exit(state, v),
-            Instr::New(_, handler) if self.new_fails(state) => self.wants_end(state, handler),
+            Instr::New(_, handler) if self.new_fails(state) => {
+                self.refuses_throw(state, class, handler)
+            }
             Instr::New(..) => self.wants_room(state, class),
             Instr::Start(c) => self.refuses_start(state, c),
-            Instr::Athrow(handler) => self.wants_end(state, handler),
-            Instr::Return => self.wants_end(state, None),
+            Instr::Athrow(handler) => {
+                self.wants(state, 1)?;
+                let top = self.thread(state).peek(0);
+                self.wants_kind(state.is_of_class(top, self.bundle.exception()))?;
+                self.refuses_throw(state, class, handler)
+            }
+            Instr::Return => self.wants_end(state),
         }
     }
 
@@ -272,10 +285,19 @@ impl Turn<'_> {
         refuse_unless(right, answer::WRONG_KIND)
     }
 
-    /// Without a handler the thread would end, and may hold nothing then.
-    fn wants_end(&self, state: &State, handler: Option<Addr>) -> Result<(), u8> {
+    /// A thread that would end may hold nothing.
+    fn wants_end(&self, state: &State) -> Result<(), u8> {
         let holds = state.counts_of(self.mover).iter().any(|&count| count > 0);
-        refuse_unless(handler.is_some() || !holds, answer::ENDS_HOLDING)
+        refuse_unless(!holds, answer::ENDS_HOLDING)
+    }
+
+    /// A handler needs room for what is thrown, on a stack emptied first;
+    /// without one the thread would end.
+    fn refuses_throw(&self, state: &State, class: &Class, handler: Option<Addr>) -> Result<(), u8> {
+        match handler {
+            Some(_) => refuse_unless(class.stack_limit > 0, answer::STACK_FULL),
+            None => self.wants_end(state),
+        }
     }
 
     fn new_fails(&self, state: &State) -> bool {
@@ -285,7 +307,7 @@ impl Turn<'_> {
     /// The object whose count monitorenter or monitorexit moves.
     fn locked(&self, state: &State, v: Var) -> Result<usize, u8> {
         match self.thread(state).variables[usize::from(v.0)] {
-            Value::Ref(_) if self.slips.count_by_variable => Ok(usize::from(v.0)),
+            Value::Ref(_) if self.slips.has(Slip::CountByVariable) => Ok(usize::from(v.0)),
             Value::Ref(object) => Ok(usize::from(object)),
             Value::Int(_) => Err(answer::WRONG_KIND),
         }
@@ -297,7 +319,10 @@ impl Turn<'_> {
         let held_elsewhere = (0..THREADS).any(|t| t != self.mover && state.count(t, object) > 0);
         refuse_unless(own < MAX_COUNT, answer::COUNT_FULL)?;
         refuse_unless(!held_elsewhere, answer::HELD)?;
-        refuse_unless(!(self.slips.reentry_waits && own > 0), answer::HELD)
+        refuse_unless(
+            !(self.slips.has(Slip::ReentryWaits) && own > 0),
+            answer::HELD,
+        )
     }
 
     fn refuses_exit(&self, state: &State, v: Var) -> Result<(), u8> {
@@ -330,11 +355,14 @@ impl Turn<'_> {
             Instr::Enter(v) => self.move_count(state, v, |count| count + 1),
             Instr::Exit(v) => self.move_count(state, v, |count| count - 1),
             Instr::New(_, handler) if self.new_fails(state) => {
-                return self.throw(state, class, handler);
+                return self.throw(state, class, handler, Value::Ref(THROWN_BY_NEW));
             }
             Instr::New(c, _) => self.make(state, c),
             Instr::Start(c) => self.start(state, c),
-            Instr::Athrow(handler) => return self.throw(state, class, handler),
+            Instr::Athrow(handler) => {
+                let top = self.thread(state).peek(0);
+                return self.throw(state, class, handler, top);
+            }
             Instr::Return => {
                 self.end(state, class);
                 return answer::RETURNED;
@@ -413,13 +441,15 @@ impl Turn<'_> {
         };
     }
 
-    fn throw(&self, state: &mut State, class: &Class, handler: Option<Addr>) -> u8 {
+    /// The handler finds what is thrown alone on its stack.
+    fn throw(&self, state: &mut State, class: &Class, handler: Option<Addr>, thrown: Value) -> u8 {
         let Some(address) = handler else {
             self.end(state, class);
             return answer::UNCAUGHT;
         };
         let thread = &mut state.threads[self.mover];
         thread.empty_stack();
+        thread.push(thrown);
         thread.address = address.0;
         answer::WENT_ON
     }

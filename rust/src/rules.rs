@@ -6,8 +6,9 @@
 //! row, in each the variables ascending, then the stack from the top.
 
 use crate::bundle::{Addr, Bundle, Class, Instr, Row, Var, INT};
-use crate::entries::{all_fit, all_may_go, Entry, Outcome, Pair, Raw, Why, MAX_WEIGHT};
-use crate::slips::Slips;
+use crate::entries::{all_fit, all_may_go, ask, Entry, Outcome, Pair, Raw, Why, MAX_WEIGHT};
+use crate::slips::{Slip, Slips};
+use crate::throws::Throw;
 
 /// Row 1: depth 0, arguments fit their variables, the others are exactly Top.
 pub fn first_row_holds(class: &Class) -> bool {
@@ -45,17 +46,17 @@ pub fn check(bundle: &Bundle, class: &Class, address: Addr, slips: &Slips) -> Ou
         Instr::If(target) => branch(row, next(), class.row(target), slips),
         Instr::Enter(v) => lock(row, next(), v, Pair::entered),
         Instr::Exit(v) => lock(row, next(), v, |pair| exited(pair, slips)),
-        Instr::New(c, handler) => new(row, next(), at(handler), c, slips),
+        Instr::New(c, handler) => {
+            let failed = Throw::by_new(row, at(handler), bundle.exception(), slips);
+            new(row, next(), c, failed, slips)
+        }
         Instr::Start(c) => start(row, next(), c, bundle.class(c).arguments, slips),
-        Instr::Athrow(handler) => athrow(row, at(handler), slips),
+        Instr::Athrow(handler) => {
+            let throw = Throw::by_athrow(row, at(handler), bundle.exception(), slips)?;
+            throw.asks(slips)?;
+            throw.fits(slips)
+        }
         Instr::Return => ends(row, slips),
-    }
-}
-
-fn ask(holds: bool) -> Outcome {
-    match holds {
-        true => Ok(()),
-        false => Err(Why::Asked),
     }
 }
 
@@ -147,23 +148,23 @@ fn load(row: Row, next: Row, v: Var, slips: &Slips) -> Outcome {
 /// One reference becomes two: its pair is shared out between them.
 fn shares(class: u8, pair: Pair, kept: Entry, given: Entry, slips: &Slips) -> Outcome {
     let (kept, given) = (kept.weight_after(class)?, given.weight_after(class)?);
-    if slips.load_copies_pair {
-        pair.covers(kept)?;
-        return pair.covers(given);
+    let copies = |entry: Pair| slips.has(Slip::LoadCopiesPair) && pair.covers(entry).is_ok();
+    if copies(kept) && copies(given) {
+        return Ok(());
     }
     pair.covers(kept.plus(given))
 }
 
 fn store(row: Row, next: Row, v: Var, slips: &Slips) -> Outcome {
     let stacks = Stacks::<1, 0>::split(row, next)?;
-    ask(slips.store_keeps_old || entry_at(row, v).may_go(slips))?;
+    ask(slips.has(Slip::StoreKeepsOld) || entry_at(row, v).may_go(slips))?;
     let stored = stacks.taken[0].compare(entry_at(next, v));
     variables_fit_but(row, next, v, stored)?;
     stacks.rest_fits()
 }
 
 fn branch(row: Row, next: Row, target: Row, slips: &Slips) -> Outcome {
-    let target = match slips.if_checks_fall_through_only {
+    let target = match slips.has(Slip::IfChecksFallThroughOnly) {
         true => next,
         false => target,
     };
@@ -191,7 +192,7 @@ fn lock(row: Row, next: Row, v: Var, moved: impl Fn(Pair) -> Pair) -> Outcome {
 
 fn exited(pair: Pair, slips: &Slips) -> Pair {
     let exited = pair.exited();
-    match slips.exit_ignores_dip {
+    match slips.has(Slip::ExitIgnoresDip) {
         true => Pair::new(MAX_WEIGHT, exited.end),
         false => exited,
     }
@@ -210,46 +211,22 @@ fn start(row: Row, next: Row, class: u8, descriptors: &[u8], slips: &Slips) -> O
     all_fit(rest, next.stack)
 }
 
-/// Int for the descriptor FF, else a reference of that class, whatever its pair.
+/// Int for the descriptor FF, else a reference of that class.
 fn matches(entry: Entry, descriptor: u8) -> bool {
-    match entry {
-        Entry::Int => descriptor == INT,
-        Entry::Ref { class, .. } => class == descriptor,
-        Entry::Top => false,
+    match descriptor {
+        INT => entry == Entry::Int,
+        class => entry.is_of(class),
     }
 }
 
-fn new(row: Row, next: Row, handler: Option<Row>, class: u8, slips: &Slips) -> Outcome {
+fn new(row: Row, next: Row, class: u8, failed: Throw, slips: &Slips) -> Outcome {
     let stacks = Stacks::split(row, next)?;
-    let mut thrown = row;
-    if slips.failed_new_skips_variables && handler.is_none() {
-        thrown.variables = &[];
-    }
-    throw_asks(thrown, handler, slips)?;
+    failed.asks(slips)?;
     pushes(Entry::fresh(class), row, next, stacks)?;
-    throw_fits(row, handler)
+    failed.fits(slips)
 }
 
-fn athrow(row: Row, handler: Option<Row>, slips: &Slips) -> Outcome {
-    throw_asks(row, handler, slips)?;
-    throw_fits(row, handler)
-}
-
-/// What athrow and a failed new ask: the stack may go, and the handler's row
-/// has depth 0; with none, the variables may go too.
-fn throw_asks(row: Row, handler: Option<Row>, slips: &Slips) -> Outcome {
-    match handler {
-        Some(at) => ask(at.stack.is_empty() && all_may_go(row.stack, slips)),
-        None => ends(row, slips),
-    }
-}
-
-/// What athrow and a failed new compare.
-fn throw_fits(row: Row, handler: Option<Row>) -> Outcome {
-    handler.map_or(Ok(()), |at| variables_fit(row, at))
-}
-
-/// The thread ends here: every entry, variables and stack, may go.
+/// return: every entry, variables and stack, may go.
 fn ends(row: Row, slips: &Slips) -> Outcome {
     ask(all_may_go(row.variables, slips) && all_may_go(row.stack, slips))
 }

@@ -1,7 +1,9 @@
 //! Random schedules, and random states to begin them from.
 
 use crate::bundle::{Addr, Bundle, Class, Instr};
-use crate::machine::{step_in, State, Thread, Value, MAX_COUNT, OBJECTS, PLACES, THREADS};
+use crate::machine::{
+    step_in, State, Thread, Value, MAX_COUNT, OBJECTS, PLACES, THREADS, THROWN_BY_NEW,
+};
 use crate::rng::Rng;
 use crate::slips::Slips;
 
@@ -38,7 +40,7 @@ pub struct Scheduler {
 impl Scheduler {
     pub fn new(seed: u64) -> Scheduler {
         let mut rng = Rng::new(seed);
-        let failing = rng.pick(&[0, 2, 8, 30]);
+        let failing = rng.pick(&[0, 2, 4, 16]);
         let changing = rng.pick(&[1, 2, 8, 40]);
         Scheduler {
             rng,
@@ -101,7 +103,7 @@ pub fn any_state(rng: &mut Rng, b: &[u8]) -> State {
 /// A state that is one of this bundle.
 pub fn valid_state(rng: &mut Rng, bundle: &Bundle) -> State {
     let mut state = State::EMPTY;
-    state.objects = rng.pick(&[0, 1, 2, 3, 8, 31, 32]);
+    state.objects = rng.pick(&[1, 1, 2, 3, 8, 31, 32]);
     let garbage = rng.chance(1, 2);
     for (object, class) in state.classes.iter_mut().enumerate() {
         if object < usize::from(state.objects) {
@@ -110,6 +112,7 @@ pub fn valid_state(rng: &mut Rng, bundle: &Bundle) -> State {
             *class = rng.byte();
         }
     }
+    state.classes[usize::from(THROWN_BY_NEW)] = bundle.exception();
     let living = rng.pick(&[1, 4, 8, 8]);
     for t in 0..THREADS {
         state.threads[t] = match rng.chance(living, 8) {
@@ -276,12 +279,35 @@ fn break_thread(rng: &mut Rng, bundle: &Bundle, state: &mut State, t: usize) {
 fn break_objects(rng: &mut Rng, bundle: &Bundle, state: &mut State, t: usize) {
     let object = rng.below(OBJECTS);
     let at = t * OBJECTS + object;
-    match rng.below(5) {
+    match rng.below(7) {
         0 => state.objects = rng.pick(&[33, 64, 255]),
         1 => state.classes[object] = bundle.count(),
-        2 => state.counts[at] = rng.pick(&[MAX_COUNT + 1, 65_535]),
+        2 => state.classes[usize::from(THROWN_BY_NEW)] = other_class(rng, bundle),
+        3 => forget_objects(state),
+        4 => state.counts[at] = rng.pick(&[MAX_COUNT + 1, 65_535]),
         // On an object or none, by a live thread or not, beside another or not.
-        3 => state.counts[at] = 1,
+        5 => state.counts[at] = 1,
         _ => state.counts[(t + 1) % THREADS * OBJECTS + object] = state.counts[at].max(1),
+    }
+}
+
+/// A class other than the exception class: one of the bundle's if it has any.
+fn other_class(rng: &mut Rng, bundle: &Bundle) -> u8 {
+    match bundle.count() {
+        1 => 1,
+        count => (bundle.exception() + rng.between(1, usize::from(count) - 1) as u8) % count,
+    }
+}
+
+/// No object at all, and nothing that speaks of one.
+fn forget_objects(state: &mut State) {
+    state.objects = 0;
+    state.counts.fill(0);
+    for thread in &mut state.threads {
+        for value in thread.variables.iter_mut().chain(&mut thread.stack) {
+            if matches!(value, Value::Ref(_)) {
+                *value = Value::ZERO;
+            }
+        }
     }
 }

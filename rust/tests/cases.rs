@@ -165,38 +165,38 @@ fn j_inc_wraps() {
     );
 }
 
-/// new 0; pop; back to 1: makes objects until one fails.
+/// new 0; pop; and back to 1 by an if: makes objects until one fails.
 fn endless_new() -> Vec<u8> {
     let code = vec![
         Instr::New(0, None),
         Instr::Pop,
-        Instr::Athrow(Some(Addr(1))),
+        Instr::Push0,
+        Instr::Inc,
+        Instr::If(Addr(1)),
+        Instr::Return,
     ];
-    let rows = vec![
-        Row::new(&[], &[]),
-        Row::new(&[], &[FREE]),
-        Row::new(&[], &[]),
-    ];
+    let stacks: [&[Entry]; 6] = [&[], &[FREE], &[], &[Entry::Int], &[Entry::Int], &[]];
     lay_out(&[Method {
         stack_limit: 1,
         code,
-        rows,
+        rows: stacks.map(|stack| Row::new(&[], stack)).to_vec(),
         ..Method::default()
     }])
 }
 
+/// Object 0 is there already, so 31 are left for new.
 #[test]
-fn k_the_33rd_new_fails() {
+fn k_the_32nd_new_fails() {
     let bytes = endless_new();
     assert_eq!(judge(&bytes), Verdict::new(0, 1, 0));
     let (_, mut state) = fresh(&bytes);
-    for made in 1..=32 {
-        for _ in 0..3 {
+    for made in 1..=31 {
+        for _ in 0..5 {
             let (answer, next) = run(&bytes, &state, false);
             assert_eq!(answer, 0);
             state = next;
         }
-        assert_eq!(state.objects, made);
+        assert_eq!(state.objects, 1 + made);
     }
     let (answer, after) = run(&bytes, &state, false);
     assert_eq!(
@@ -223,7 +223,7 @@ fn a_runs_down_both_arms() {
         state = next;
     }
     assert_eq!(answers, [0, 0, 0, 0, 0, 0, 1, 5]);
-    assert_eq!((state.objects, state.counts), (1, [0; 256]));
+    assert_eq!((state.objects, state.counts), (2, [0; 256]));
     assert_eq!(state.threads, State::EMPTY.threads);
 }
 

@@ -1,9 +1,11 @@
 //! The generated inputs are varied enough to be worth comparing on.
 
 use hveitmar_reference::bundle::Bundle;
+use hveitmar_reference::comparison::lively::Lively;
 use hveitmar_reference::comparison::whys::Whys;
-use hveitmar_reference::generate::{self, flow, typed};
-use hveitmar_reference::machine::belongs;
+use hveitmar_reference::digest;
+use hveitmar_reference::generate::{self, flow, sized, typed};
+use hveitmar_reference::machine::{belongs, fresh};
 use hveitmar_reference::rng::Rng;
 use hveitmar_reference::schedule::valid_state;
 use hveitmar_reference::slips::{Slip, Slips};
@@ -64,6 +66,28 @@ fn every_temptation_works() {
             .count();
         assert!(let_through >= 10, "{slip:?}: {let_through}");
     }
+}
+
+/// The benchmark's bundles are what their names say.
+#[test]
+fn the_endless_thread_never_ends() {
+    let b = sized::endless(7);
+    assert_eq!(verify(&b, &Slips::NONE).number, 0);
+    assert_eq!(digest::of_run(&b, &[0; 1_000], &Slips::NONE), 0);
+}
+
+#[test]
+fn runs_enter_handlers() {
+    let (mut by_athrow, mut by_new) = (0, 0);
+    for seed in 0..1_000 {
+        let mut rng = Rng::new(seed);
+        let b = typed::well_typed(&mut rng);
+        let run = Lively::follow(&mut rng, &b, fresh(&b).1, 100);
+        by_athrow += usize::from(run.caught_athrow);
+        by_new += usize::from(run.caught_new);
+    }
+    assert!(by_athrow >= 200, "{by_athrow}");
+    assert!(by_new >= 200, "{by_new}");
 }
 
 #[test]

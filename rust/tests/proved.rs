@@ -1,6 +1,6 @@
 //! The proved code behind its C calls, on the cases of document 01.
 
-use hveitmar_reference::builder::{case_a, lay_out};
+use hveitmar_reference::builder::{case_a, lay_out, Method, Row};
 use hveitmar_reference::bundle::{Addr, Instr, Verdict};
 use hveitmar_reference::entries::Entry;
 use hveitmar_reference::generate::{self, typed};
@@ -43,11 +43,33 @@ fn a_run_of_case_a() {
     assert_eq!(proved::digest(&[], &[0]), 17 * 31 + 17);
 }
 
+/// A failed new finds its handler, which drops what was thrown and returns.
+#[test]
+fn a_thrown_object() {
+    let method = Method {
+        stack_limit: 1,
+        code: vec![Instr::New(0, Some(Addr(2))), Instr::Pop, Instr::Return],
+        rows: vec![
+            Row::new(&[], &[]),
+            Row::new(&[], &[Entry::fresh(0)]),
+            Row::new(&[], &[]),
+        ],
+        ..Method::default()
+    };
+    let mut bundle = lay_out(&[method]);
+    assert_eq!(proved::verdict(&bundle), Verdict::new(0, 1, 0));
+    assert_eq!(proved::digest(&bundle, &[0x80, 0, 0, 0]), 31 + 5);
+    // The spare byte names a class that isn't there.
+    let spare = bundle.len() - 5;
+    bundle[spare] = 1;
+    assert_eq!(proved::verdict(&bundle), Verdict::new(3, 0, 0));
+}
+
 /// Were one side to make a slip, the comparison would show it.
 #[test]
 fn a_slipped_verifier_differs_from_the_proved_one() {
     for slip in Slip::VERIFIER {
-        let differing = (0..3_000)
+        let differing = (0..8_000)
             .map(|seed| generate::bundle(seed).1)
             .filter(|b| verify(b, &slip.alone()) != proved::verdict(b))
             .count();

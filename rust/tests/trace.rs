@@ -21,7 +21,7 @@ fn case_a_prints_as_told() {
     assert_eq!(lines[2], "step 2 thread 1 answer 5 fails");
     assert_eq!(lines[3], "step 3 thread 9 answer 5 fails");
     let places = "i0 ".repeat(15) + "i0";
-    let top = "r0".to_string() + &" i0".repeat(15);
+    let top = "r1".to_string() + &" i0".repeat(15);
     let counts = "0 ".repeat(31) + "0";
     assert_eq!(
         lines[4],
@@ -29,7 +29,7 @@ fn case_a_prints_as_told() {
             "thread 0 live 1 class 0 address 2 depth 1 vars {places} stack {top} counts {counts}"
         )
     );
-    assert_eq!(lines[12], format!("objects 1 classes {counts}"));
+    assert_eq!(lines[12], format!("objects 2 classes {counts}"));
     assert_eq!(lines.len(), 13);
 }
 

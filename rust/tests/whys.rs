@@ -161,17 +161,21 @@ fn another_row_s_depth_comes_before_what_is_compared() {
         let next = row(&[variable], &[zero(1, 0)]);
         why_to(Instr::New(0, handler), own, next, at)
     };
-    assert_eq!(new(Some(OTHER), TOP, row(&[TOP], &[])), Some(2));
-    assert_eq!(new(Some(OTHER), TOP, row(&[TOP], &[TOP])), Some(0));
+    assert_eq!(new(Some(OTHER), TOP, row(&[TOP], &[TOP])), Some(2));
+    assert_eq!(new(Some(OTHER), TOP, row(&[TOP], &[])), Some(0));
     assert_eq!(new(None, zero(0, 0), row(&[TOP], &[])), Some(2));
     assert_eq!(new(None, zero(0, -1), row(&[TOP], &[])), Some(0));
     let athrow = |stack: &[Entry], at: Row| {
         let own = row(&[TOP], stack);
         why_to(Instr::Athrow(Some(OTHER)), own, row(&[TOP], &[]), at)
     };
-    assert_eq!(athrow(&[], row(&[INTEGER], &[])), Some(1));
-    assert_eq!(athrow(&[], row(&[INTEGER], &[TOP])), Some(0));
-    assert_eq!(athrow(&[zero(0, -1)], row(&[INTEGER], &[])), Some(0));
+    let thrown = zero(0, 0);
+    assert_eq!(athrow(&[thrown], row(&[INTEGER], &[TOP])), Some(1));
+    assert_eq!(athrow(&[thrown], row(&[INTEGER], &[])), Some(0));
+    assert_eq!(
+        athrow(&[thrown, zero(0, -1)], row(&[INTEGER], &[TOP])),
+        Some(0)
+    );
 }
 
 #[test]
@@ -331,8 +335,8 @@ fn new_compares_its_object_at_the_new_top() {
         why_to(Instr::New(0, Some(OTHER)), own, next, at)
     };
     let next = |top: Entry| row(&[zero(0, 0)], &[top, INTEGER]);
-    let fine = || row(&[TOP], &[]);
-    let misfit = || row(&[INTEGER], &[]);
+    let fine = || row(&[TOP], &[TOP]);
+    let misfit = || row(&[INTEGER], &[TOP]);
     assert_eq!(new(next(zero(0, 0)), fine()), None);
     assert_eq!(new(next(TOP), fine()), None);
     assert_eq!(new(next(one(0, 0)), fine()), Some(1));
@@ -340,7 +344,7 @@ fn new_compares_its_object_at_the_new_top() {
     assert_eq!(new(next(zero(0, 1)), misfit()), Some(3));
     assert_eq!(new(next(TOP), misfit()), Some(1));
     let below = row(&[TOP], &[TOP, zero(0, 0)]);
-    assert_eq!(new(below, row(&[zero(0, 1)], &[])), Some(1));
+    assert_eq!(new(below, row(&[zero(0, 1)], &[TOP])), Some(1));
     let before = row(&[zero(0, 1)], &[one(0, 0), TOP]);
     assert_eq!(new(before, fine()), Some(3));
 }

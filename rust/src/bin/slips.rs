@@ -1,9 +1,9 @@
 //! Shows that the generated inputs notice every slip.
 //!
 //! For a verifier's slip: a bundle that only the slipped verifier accepts,
-//! and a schedule on which the true machine then draws 14 or 15. For a
-//! machine's slip: an accepted bundle and a schedule on which the slipped
-//! machine answers otherwise than the true one.
+//! and a schedule on which the true machine then draws the fault that the
+//! slip leads to. For a machine's slip: an accepted bundle and a schedule on
+//! which the slipped machine answers otherwise than the true one.
 
 use hveitmar_reference::bundle::Bundle;
 use hveitmar_reference::generate::typed;
@@ -39,13 +39,15 @@ fn caught(slip: Slip, seed: u64) -> Option<String> {
     if truth.number == 0 || verify(&b, &slip.alone()).number != 0 {
         return None;
     }
-    let (schedule, (step, fault)) = (0..SCHEDULES).find_map(|s| Some((s, fault(&b, s)?)))?;
+    let (schedule, (step, fault)) = (0..SCHEDULES)
+        .filter_map(|s| Some((s, fault(&b, s)?)))
+        .find(|&(_, (_, fault))| Some(fault) == slip.fault())?;
     Some(format!(
         "seed {seed} {truth}, schedule {schedule} step {step} fault {fault}"
     ))
 }
 
-/// The first fault 14 or 15 of the true machine on this schedule.
+/// The first fault of the true machine on this schedule.
 fn fault(b: &[u8], seed: u64) -> Option<(usize, u8)> {
     let bundle = Bundle::open_with_code(b).ok()?;
     let mut scheduler = Scheduler::new(seed);
@@ -54,7 +56,9 @@ fn fault(b: &[u8], seed: u64) -> Option<(usize, u8)> {
         let turn = scheduler.turn(&state);
         let (given, next) = step_in(&bundle, &state, turn.thread(), turn.fails(), &Slips::NONE);
         state = next;
-        matches!(given, answer::EXIT_AT_ZERO | answer::ENDS_HOLDING).then_some((number, given))
+        (answer::STACK_SHORT..=answer::COUNT_FULL)
+            .contains(&given)
+            .then_some((number, given))
     })
 }
 

@@ -1,6 +1,7 @@
 //! Both machines on the same schedules from the fresh state: every answer.
 
-use super::{answers_text, lively_schedule, Differences};
+use super::lively::Lively;
+use super::{answers_text, Differences};
 use crate::digest::mixed;
 use crate::generate::{self, typed};
 use crate::machine::{answer, fresh};
@@ -14,6 +15,9 @@ pub struct Runs {
     running: u64,
     steps: u64,
     answers: [u64; 19],
+    /// Runs in which a handler was entered, by athrow and by a failed new.
+    caught_athrow: u64,
+    caught_new: u64,
     pub differences: Differences,
 }
 
@@ -31,20 +35,29 @@ impl Runs {
             _ => rng.between(10, 200),
         };
         let (first, state) = fresh(&bundle);
-        let (schedule, answers) = lively_schedule(&mut rng, &bundle, state, steps);
-        let reference = answers.iter().fold(u64::from(first), |d, &a| mixed(d, a));
-        let proved = proved::digest(&bundle, &schedule);
+        let run = Lively::follow(&mut rng, &bundle, state, steps);
+        let reference = run
+            .answers
+            .iter()
+            .fold(u64::from(first), |d, &a| mixed(d, a));
+        let proved = proved::digest(&bundle, &run.schedule);
         if proved != reference {
             let what =
                 format!("schedule seed {seed}: proved digest {proved}, reference {reference}");
-            self.differences.add(what, &[&bundle, &schedule]);
+            self.differences.add(what, &[&bundle, &run.schedule]);
         }
         self.schedules += 1;
         self.running += u64::from(first == answer::WENT_ON);
-        self.steps += schedule.len() as u64;
-        for answer in answers {
+        self.count(&run);
+    }
+
+    fn count(&mut self, run: &Lively) {
+        self.steps += run.schedule.len() as u64;
+        for &answer in &run.answers {
             self.answers[usize::from(answer)] += 1;
         }
+        self.caught_athrow += u64::from(run.caught_athrow);
+        self.caught_new += u64::from(run.caught_new);
     }
 
     pub fn print(&self) {
@@ -53,6 +66,10 @@ impl Runs {
             self.schedules, self.running, self.steps
         );
         println!("  steps by answer: {}", answers_text(&self.answers));
+        println!(
+            "  runs that entered a handler: {} by athrow, {} by a failed new",
+            self.caught_athrow, self.caught_new
+        );
         println!("  differences: {}", self.differences.0);
     }
 }

@@ -1,7 +1,8 @@
 //! The trace program's whole output held against the reference's: every
 //! answer and the state at the end, from the fresh state and from any other.
 
-use super::{answers_text, lively_schedule, Differences};
+use super::lively::Lively;
+use super::{answers_text, Differences};
 use crate::generate::{self, typed};
 use crate::machine::fresh;
 use crate::rng::Rng;
@@ -91,7 +92,7 @@ fn input(rng: &mut Rng, seed: u64) -> Vec<u8> {
         _ => rng.below(150),
     };
     let begin = start.clone().unwrap_or_else(|| fresh(&bundle).1);
-    let (turns, _) = lively_schedule(rng, &bundle, begin, steps);
+    let turns = Lively::follow(rng, &bundle, begin, steps).schedule;
     let mut input = encode_input(&bundle, start.as_ref(), &turns);
     if rng.chance(1, 8) {
         damage(rng, &mut input, bundle.len());

@@ -53,7 +53,7 @@ fn records(b: &[u8]) -> Vec<Record> {
 pub fn damage(rng: &mut Rng, mut b: Vec<u8>) -> Vec<u8> {
     let all = records(&b);
     let record = &all[rng.below(all.len())];
-    match rng.below(33) {
+    match rng.below(35) {
         0 => flip(rng, &mut b),
         1 | 2 => trailer(rng, &mut b),
         3 => resize(rng, &mut b),
@@ -67,6 +67,7 @@ pub fn damage(rng: &mut Rng, mut b: Vec<u8>) -> Vec<u8> {
         16 | 17 => depth(rng, &mut b, record),
         18 | 19 => raw_entry(rng, &mut b, record),
         20 => first_row(rng, &mut b, record),
+        33 | 34 => exception(rng, &mut b),
         21..=26 => nudge(rng, &mut b, record),
         _ => other_entry(rng, &mut b, record),
     }
@@ -81,6 +82,12 @@ fn flip(rng: &mut Rng, b: &mut [u8]) {
 fn trailer(rng: &mut Rng, b: &mut [u8]) {
     let at = b.len() - TRAILER + rng.below(TRAILER);
     b[at] = step_or_any(rng, b[at]);
+}
+
+/// Another exception class, or one that the bundle hasn't.
+fn exception(rng: &mut Rng, b: &mut [u8]) {
+    let at = b.len() - TRAILER + 3;
+    b[at] = rng.below(count(b) + 1) as u8;
 }
 
 /// A byte cut or added at the end, or all but a few cut.

@@ -1,14 +1,14 @@
 //! Bundles at the edges of the limits, with shared or shifted records.
 
 use super::typed;
-use crate::builder::{lay_out, Layout, Method, Row};
+use crate::builder::{lay_out, Draft, Layout, Method, Row};
 use crate::bundle::{Addr, Instr, Var, DIRECTORY_ENTRY, MAX_LENGTH, TRAILER};
 use crate::entries::Entry;
 use crate::rng::Rng;
 
 /// One bundle at some edge.
 pub fn edge(rng: &mut Rng) -> Vec<u8> {
-    match rng.below(12) {
+    match rng.below(20) {
         0 => lay_out(&[empty_method(0, 0, 1)]),
         1 => limits(rng),
         2 => shared(rng),
@@ -20,28 +20,21 @@ pub fn edge(rng: &mut Rng) -> Vec<u8> {
         8 => last_byte(rng),
         9 => deep_lock(rng),
         10 => broken_limit(rng),
+        11 => exception_class(rng),
+        12..=18 => throw_without_room(rng),
         _ => twice(rng),
     }
 }
 
-/// `length` instructions that do nothing, then return.
+/// `length` times return, which needs neither variable nor stack.
 fn empty_method(variables: usize, stack_limit: usize, length: usize) -> Method {
-    let mut code = vec![];
-    let mut rows = vec![];
     let tops = vec![Entry::Top; variables];
-    for at in 1..length {
-        // A jump to the next address needs neither variable nor stack.
-        code.push(Instr::Athrow(Some(Addr(at as u16 + 1))));
-        rows.push(Row::new(&tops, &[]));
-    }
-    code.push(Instr::Return);
-    rows.push(Row::new(&tops, &[]));
     Method {
         arguments: vec![],
         variables,
         stack_limit,
-        code,
-        rows,
+        code: vec![Instr::Return; length],
+        rows: vec![Row::new(&tops, &[]); length],
     }
 }
 
@@ -103,10 +96,11 @@ fn directory_inside(rng: &mut Rng) -> Vec<u8> {
 
 /// Odd offsets, gaps between records, and bytes before the directory.
 fn shifted(rng: &mut Rng) -> Vec<u8> {
-    let mut layout = Layout::new();
-    for method in typed::well_typed_methods(rng, None) {
+    let draft = typed::draft(rng, None);
+    let mut layout = Layout::throwing(draft.exception);
+    for method in &draft.methods {
         layout.pad(&rng_bytes(rng, 3));
-        layout.place(&method);
+        layout.place(method);
     }
     layout.pad(&rng_bytes(rng, 3));
     if layout.len() + 100 > MAX_LENGTH {
@@ -200,10 +194,29 @@ fn broken_limit(rng: &mut Rng) -> Vec<u8> {
     b
 }
 
+/// The exception class is the last one, or one that the bundle hasn't.
+fn exception_class(rng: &mut Rng) -> Vec<u8> {
+    let count = rng.between(1, 8);
+    let draft = Draft {
+        methods: vec![empty_method(rng.below(3), rng.below(3), 2); count],
+        exception: rng.pick(&[count as u8 - 1, count as u8 - 1, count as u8, 8, 255]),
+    };
+    draft.lay_out()
+}
+
+/// new where the stack has no place, with a handler or none: when it fails,
+/// only the handler would need one.
+fn throw_without_room(rng: &mut Rng) -> Vec<u8> {
+    let mut method = empty_method(rng.below(3), 0, 3);
+    let handler = rng.chance(1, 2).then(|| Addr(rng.between(1, 3) as u16));
+    method.code[0] = Instr::New(0, handler);
+    lay_out(&[method])
+}
+
 /// One well-typed bundle's record entered once more as a further class.
 fn twice(rng: &mut Rng) -> Vec<u8> {
-    let methods = typed::well_typed_methods(rng, None);
-    let mut layout = Layout::new();
+    let Draft { methods, exception } = typed::draft(rng, None);
+    let mut layout = Layout::throwing(exception);
     let offsets: Vec<usize> = methods.iter().map(|method| layout.place(method)).collect();
     for _ in methods.len()..8 {
         let class = rng.below(methods.len());

@@ -4,8 +4,8 @@
 use super::faults;
 use super::random;
 use super::typed;
-use super::writer::{free, Label, Shape, Writer};
-use crate::builder::{lay_out, Method};
+use super::writer::{free, Interface, Label, Shape, Writer};
+use crate::builder::{Draft, Method};
 use crate::bundle::{Instr, INT};
 use crate::entries::{Entry, Pair};
 use crate::rng::Rng;
@@ -15,14 +15,22 @@ const PROBED: usize = 1;
 
 /// A bundle whose rule at address 2 of some class mostly fails.
 pub fn probe(rng: &mut Rng) -> Vec<u8> {
-    let signatures = typed::signatures(rng);
+    let interface = typed::interface(rng);
+    let Interface {
+        signatures,
+        exception,
+    } = &interface;
     let chosen = rng.below(signatures.len());
     let mut methods: Vec<Method> = signatures.iter().map(|n| idle(n)).collect();
-    methods[chosen] = method(rng, &signatures, chosen);
+    methods[chosen] = method(rng, &interface, chosen);
     if rng.chance(9, 10) {
         faults::break_rule(rng, &mut methods[chosen], PROBED, signatures.len());
     }
-    lay_out(&methods)
+    let draft = Draft {
+        methods,
+        exception: *exception,
+    };
+    draft.lay_out()
 }
 
 /// A method that returns at once.
@@ -36,14 +44,14 @@ fn idle(arguments: &[u8]) -> Method {
     }
 }
 
-fn method(rng: &mut Rng, signatures: &[Vec<u8>], class: usize) -> Method {
-    let arguments = &signatures[class];
+fn method(rng: &mut Rng, interface: &Interface, class: usize) -> Method {
+    let arguments = &interface.signatures[class];
     let variables = arguments.len() + rng.between(1, 4);
     // start takes up to four entries, and some should lie below them.
     let stack_limit = rng.between(5, 7);
     let opcode = rng.between(1, Instr::NAMES.len());
     let first = random::first_row(arguments, variables).variables;
-    let mut writer = Writer::new(rng, signatures, first, stack_limit, 0);
+    let mut writer = Writer::new(rng, interface, first, stack_limit, 0);
     writer.ret();
     writer.now = writer.scattered(variables);
     writer.probed(opcode);
@@ -99,15 +107,9 @@ impl Writer<'_> {
             }
             6 => self.probed_on(Entry::Int, Writer::probed_branch),
             7 | 8 => self.probed_lock(v, opcode == 7),
-            9 => {
-                let (class, handler) = (self.pick_class(), self.probed_handler());
-                self.new_object(class, handler);
-            }
+            9 => self.probed_new(),
             10 => self.probed_start(),
-            11 => {
-                let handler = self.probed_handler();
-                self.throw(handler);
-            }
+            11 => self.probed_throw(),
             _ => {
                 self.free_all();
                 self.ret();
@@ -157,11 +159,31 @@ impl Writer<'_> {
         }
     }
 
-    /// Some handler or none, and entries that let the throw pass.
-    fn probed_handler(&mut self) -> Option<Label> {
+    /// At times the handler is the next address.
+    fn probed_new(&mut self) {
+        let class = self.pick_class();
         self.now.stack.iter_mut().for_each(|e| *e = freed(*e));
+        let failure = Entry::fresh(self.interface.exception);
+        let handler = self.probed_handler(failure);
+        self.new_object(class, handler);
+        if let Some(label) = handler.filter(|_| self.rng.chance(1, 8)) {
+            self.place(label);
+        }
+    }
+
+    fn probed_throw(&mut self) {
+        self.now.stack.iter_mut().for_each(|e| *e = freed(*e));
+        let (dip, end) = (self.rng.below(4), self.rng.below(7));
+        let thrown = Entry::reference(self.interface.exception, dip as i16, end as i16 - 3);
+        self.now.stack.push(thrown);
+        let handler = self.probed_handler(thrown);
+        self.throw(handler);
+    }
+
+    /// Some handler for what is thrown, or none, and then all may go.
+    fn probed_handler(&mut self, thrown: Entry) -> Option<Label> {
         if self.rng.chance(2, 3) {
-            return Some(self.label(self.now.emptied()));
+            return Some(self.handler(thrown));
         }
         self.free_all();
         None
@@ -177,7 +199,7 @@ impl Writer<'_> {
 
     fn probed_start(&mut self) {
         let class = self.pick_class();
-        let arguments = &self.signatures[usize::from(class)];
+        let arguments = &self.interface.signatures[usize::from(class)];
         let below = self.stack_limit - arguments.len() - 1;
         self.now.stack.truncate(below);
         // The object lies lowest, argument 0 on top.

@@ -1,6 +1,6 @@
 //! Random bytes, and bundles whose structure holds but whose rows are random.
 
-use crate::builder::{lay_out, seal, Method, Row};
+use crate::builder::{seal, Draft, Method, Row};
 use crate::bundle::{Addr, Instr, Var, INT};
 use crate::entries::Entry;
 use crate::rng::Rng;
@@ -17,22 +17,21 @@ pub fn bytes(rng: &mut Rng) -> Vec<u8> {
     let body = rng.bytes(length);
     if rng.chance(1, 4) && (8..60_000).contains(&length) {
         let (directory, count) = (rng.below(length + 2), rng.below(10));
-        return seal(body, directory, count);
+        return seal(body, directory, count, rng.below(10) as u8);
     }
     body
 }
 
-/// Verdicts 1 to 8 hold; instructions and rows are random.
-pub fn structured(rng: &mut Rng) -> Vec<u8> {
-    lay_out(&structured_methods(rng))
-}
-
-pub fn structured_methods(rng: &mut Rng) -> Vec<Method> {
+/// Draws none of the verdicts 1 to 8; instructions and rows are random.
+pub fn structured(rng: &mut Rng) -> Draft {
     let most = if rng.chance(1, 10) { 8 } else { 3 };
     let classes = rng.between(1, most);
-    (0..classes)
-        .map(|class| method(rng, class, classes))
-        .collect()
+    Draft {
+        methods: (0..classes)
+            .map(|class| method(rng, class, classes))
+            .collect(),
+        exception: rng.below(classes) as u8,
+    }
 }
 
 fn method(rng: &mut Rng, class: usize, classes: usize) -> Method {

@@ -96,48 +96,56 @@ impl Writer<'_> {
         self.place(label);
     }
 
-    /// Goes to a label without stack, or ends if the shapes can't meet.
-    pub(super) fn jump(&mut self, label: Label) {
-        match self.settle(&self.shape(label)) {
-            true => self.throw(Some(label)),
-            false => self.close(),
+    /// Goes to a label; false if the shapes can't meet. What comes next is
+    /// never reached, but must hold in the label's shape.
+    pub(super) fn jump(&mut self, label: Label) -> bool {
+        let meets = self.settle(&self.shape(label)) && self.room() > 0;
+        if meets {
+            self.push0();
+            self.inc();
+            self.branch(label);
+        }
+        meets
+    }
+
+    /// Goes to a label, or ends if the shapes can't meet.
+    pub(super) fn jump_or_close(&mut self, label: Label) {
+        if !self.jump(label) {
+            self.close();
         }
     }
 
     /// Ends the path: mostly the thread ends, at times it goes back.
     pub(super) fn finish(&mut self) {
-        let back = self.placed_without_stack();
-        let fitting = |writer: &Self, label: Label| writer.now.variables_fit(&writer.shape(label));
-        let caught = self
-            .active
-            .last()
-            .copied()
-            .filter(|&label| fitting(self, label));
-        match (self.rng.below(8), caught) {
-            (0, _) if !back.is_empty() => {
-                let label = self.rng.pick(&back);
-                self.jump(label);
-            }
-            (1..=3, Some(label)) if self.stack_free() => self.throw(Some(label)),
+        match self.rng.below(8) {
+            0 => self.go_back(),
+            1..=3 => self.throw_or_close(),
             _ => self.close(),
         }
+    }
+
+    /// Goes back to where the stack was empty, if it can; the code has to end
+    /// all the same.
+    fn go_back(&mut self) {
+        let mut back = self.labels(|shape| shape.stack.is_empty());
+        back.retain(|&label| self.is_placed(label));
+        if !back.is_empty() {
+            let label = self.rng.pick(&back);
+            self.jump(label);
+        }
+        self.close();
     }
 
     /// Gives back every lock and ends; if that can't be, spins.
     pub(super) fn close(&mut self) {
         self.release_all();
-        if !self.stack_free() {
+        if !self.stack_free() || !self.variables_free() {
             self.drop_stack_to(0);
         }
-        if !self.variables_free() || !self.stack_free() {
-            self.drop_stack_to(0);
-            let here = self.label(self.now.clone());
-            self.place(here);
-            self.throw(Some(here));
-        } else if self.rng.chance(1, 5) {
-            self.throw(None);
-        } else {
-            self.ret();
+        match self.stack_free() && self.variables_free() {
+            false if self.spin() => {}
+            true if self.rng.chance(1, 5) && self.push_thrown().is_some() => self.throw(None),
+            _ => self.ret(),
         }
     }
 }

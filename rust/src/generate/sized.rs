@@ -33,7 +33,7 @@ pub fn typical(bytes: usize, wanted: usize) -> Vec<Vec<u8>> {
 /// methods that know no class but 0, which has no arguments in any bundle.
 pub fn full(wanted: usize) -> Vec<Vec<u8>> {
     let mains: Vec<Method> = (0..)
-        .map(|seed| typed::well_typed_methods(&mut Rng::new(seed), None))
+        .map(|seed| typed::draft(&mut Rng::new(seed), None).methods)
         .filter(|methods| methods.len() == 1)
         .flatten()
         .filter(|method| (7_000..8_180).contains(&method.record().len()))
@@ -117,8 +117,8 @@ impl Stripe {
         self.add(Instr::Store(Var(1)), at_rest, &[Entry::Int]);
     }
 
-    fn end(mut self, instr: Instr) -> Method {
-        self.add(instr, [Entry::fresh(0), Entry::Int], &[]);
+    fn end(mut self, instr: Instr, stack: &[Entry]) -> Method {
+        self.add(instr, [Entry::fresh(0), Entry::Int], stack);
         Method {
             arguments: vec![],
             variables: 4,
@@ -134,23 +134,37 @@ impl Stripe {
 pub fn striped(bytes: usize) -> Vec<u8> {
     let total = (bytes - TRAILER - 8 * DIRECTORY_ENTRY) / STRIPE_INSTRUCTION;
     let classes = total.div_ceil(MAX_CODE);
-    let method = striped_method(total / classes, Instr::Return);
+    let method = striped_method(total / classes);
     lay_out(&vec![method; classes])
 }
 
-fn striped_method(length: usize, last: Instr) -> Method {
+fn striped_method(length: usize) -> Method {
     let mut stripe = Stripe::default();
     stripe.begin();
     while stripe.code.len() + 10 <= length {
         stripe.block();
     }
-    stripe.end(last)
+    stripe.end(Instr::Return, &[])
 }
 
-/// A main thread that never ends (athrow goes back to address 5), beside the
-/// methods of as many further classes.
+/// A method that never ends: it throws its object to a handler before the
+/// block, again and again.
+fn endless_method() -> Method {
+    let (free, at_rest) = (Entry::fresh(0), [Entry::fresh(0), Entry::Int]);
+    let mut stripe = Stripe::default();
+    stripe.begin();
+    stripe.add(Instr::Load(Var(0)), at_rest, &[]);
+    let handler = Addr(stripe.code.len() as u16 + 1);
+    stripe.add(Instr::Pop, at_rest, &[free]);
+    stripe.block();
+    stripe.add(Instr::Load(Var(0)), at_rest, &[]);
+    stripe.end(Instr::Athrow(Some(handler)), &[free])
+}
+
+/// A main thread that never ends, beside the methods of as many further
+/// classes.
 pub fn endless(others: usize) -> Vec<u8> {
-    let mut methods = vec![striped_method(14, Instr::Athrow(Some(Addr(5))))];
-    methods.extend(vec![striped_method(250, Instr::Return); others]);
+    let mut methods = vec![endless_method()];
+    methods.extend(vec![striped_method(250); others]);
     lay_out(&methods)
 }

@@ -1,12 +1,9 @@
-//! Well-typed methods: nested lock regions, branches, loops, handlers,
+//! Well-typed methods: nested lock regions, branches, loops, throws, handlers,
 //! aliases and started threads, each with the rows that make it hold.
-//!
-//! athrow with a handler serves as a plain jump: it empties the stack and
-//! goes there.
 
 use super::random;
-use super::writer::{free, Label, Writer};
-use crate::builder::{lay_out, Method};
+use super::writer::{free, Interface, Writer};
+use crate::builder::{Draft, Method};
 use crate::bundle::{INT, MAX_LENGTH};
 use crate::entries::{Entry, Pair};
 use crate::rng::Rng;
@@ -14,30 +11,33 @@ use crate::slips::Slip;
 
 /// A bundle of well-typed methods, accepted but for rare bad luck.
 pub fn well_typed(rng: &mut Rng) -> Vec<u8> {
-    lay_out(&well_typed_methods(rng, None))
+    draft(rng, None).lay_out()
 }
 
 /// A bundle that only a verifier with this slip accepts, but for bad luck.
 pub fn tempting(rng: &mut Rng, slip: Slip) -> Vec<u8> {
-    lay_out(&well_typed_methods(rng, Some(slip)))
+    draft(rng, Some(slip)).lay_out()
 }
 
 /// The methods of a whole bundle; only main is tempted, so that it is run.
-pub fn well_typed_methods(rng: &mut Rng, temptation: Option<Slip>) -> Vec<Method> {
+pub fn draft(rng: &mut Rng, temptation: Option<Slip>) -> Draft {
     loop {
-        let signatures = signatures(rng);
-        let methods: Vec<Method> = (0..signatures.len())
-            .map(|class| method(rng, &signatures, class, temptation.filter(|_| class == 0)))
+        let interface = interface(rng);
+        let methods: Vec<Method> = (0..interface.signatures.len())
+            .map(|class| method(rng, &interface, class, temptation.filter(|_| class == 0)))
             .collect();
         let length: usize = methods.iter().map(|m| m.record().len() + 8).sum();
         if length + 8 <= MAX_LENGTH {
-            return methods;
+            return Draft {
+                methods,
+                exception: interface.exception,
+            };
         }
     }
 }
 
-/// The classes' argument descriptors; main takes none.
-pub fn signatures(rng: &mut Rng) -> Vec<Vec<u8>> {
+/// The classes' argument descriptors, none for main, and what they throw.
+pub fn interface(rng: &mut Rng) -> Interface {
     let count = if rng.chance(1, 12) {
         8
     } else {
@@ -47,17 +47,20 @@ pub fn signatures(rng: &mut Rng) -> Vec<Vec<u8>> {
         true => INT,
         false => rng.below(count) as u8,
     };
-    let mut all = vec![vec![]];
+    let mut signatures = vec![vec![]];
     for _ in 1..count {
         let n = rng.pick(&[0, 1, 1, 2, 2, 3]);
-        all.push((0..n).map(|_| descriptor(rng)).collect());
+        signatures.push((0..n).map(|_| descriptor(rng)).collect());
     }
-    all
+    Interface {
+        signatures,
+        exception: rng.below(count) as u8,
+    }
 }
 
 /// One method; tries again, shorter, when it grows too long.
-fn method(rng: &mut Rng, signatures: &[Vec<u8>], class: usize, slip: Option<Slip>) -> Method {
-    let arguments = &signatures[class];
+fn method(rng: &mut Rng, interface: &Interface, class: usize, slip: Option<Slip>) -> Method {
+    let arguments = &interface.signatures[class];
     let mut budget = match rng.below(40) {
         0 => rng.between(100, 220),
         1..=10 => rng.between(1, 12),
@@ -67,7 +70,7 @@ fn method(rng: &mut Rng, signatures: &[Vec<u8>], class: usize, slip: Option<Slip
         let variables = (arguments.len() + size(rng)).min(16);
         let first = random::first_row(arguments, variables).variables;
         let stack_limit = size(rng);
-        let mut writer = Writer::new(rng, signatures, first, stack_limit, budget);
+        let mut writer = Writer::new(rng, interface, first, stack_limit, budget);
         writer.temptation = slip;
         writer.body();
         if let Some(method) = writer.into_method(arguments.clone()) {
@@ -98,6 +101,7 @@ impl Writer<'_> {
         self.finish();
         while let Some(handler) = self.unplaced() {
             self.place(handler);
+            self.meet_thrown();
             if !self.tired() || self.rng.chance(1, 8) {
                 self.block(1);
             }
@@ -105,7 +109,7 @@ impl Writer<'_> {
         }
     }
 
-    fn block(&mut self, nest: usize) {
+    pub(super) fn block(&mut self, nest: usize) {
         for _ in 0..self.rng.between(1, 3) {
             if self.tired() {
                 return;
@@ -115,19 +119,22 @@ impl Writer<'_> {
     }
 
     fn statement(&mut self, nest: usize) {
-        match self.rng.below(if nest == 0 { 8 } else { 22 }) {
+        match self.rng.below(if nest == 0 { 11 } else { 27 }) {
             0 => self.number(),
             1 | 2 => self.object(),
             3 | 4 => self.alias(),
             5 => self.start_thread(),
             6 => self.weaken(),
-            7..=12 => self.lock_region(nest),
-            13 | 14 => self.if_skips(nest - 1),
-            15 => self.if_else(nest - 1),
-            16 | 17 => self.if_ends(nest - 1),
-            18 => self.do_loop(nest - 1),
-            19 => self.while_loop(nest - 1),
-            20 => self.try_region(nest - 1),
+            7 | 8 => self.throw_ahead(),
+            9 | 10 => self.object_or_thrown(),
+            11..=16 => self.lock_region(nest),
+            17 | 18 => self.if_skips(nest - 1),
+            19 => self.if_else(nest - 1),
+            20 => self.if_ends(nest - 1),
+            21 | 22 => self.if_throws(nest - 1),
+            23 => self.do_loop(nest - 1),
+            24 => self.while_loop(nest - 1),
+            25 => self.try_region(nest - 1),
             _ => self.over_stack(nest - 1),
         }
     }
@@ -140,11 +147,11 @@ impl Writer<'_> {
     }
 
     pub(super) fn pick_class(&mut self) -> u8 {
-        self.rng.below(self.signatures.len()) as u8
+        self.rng.below(self.interface.signatures.len()) as u8
     }
 
     /// An integer made, and dropped or kept.
-    fn number(&mut self) {
+    pub(super) fn number(&mut self) {
         if self.room() == 0 {
             return;
         }
@@ -153,7 +160,7 @@ impl Writer<'_> {
     }
 
     /// An integer on the stack: 0 or a small one.
-    fn condition(&mut self) {
+    pub(super) fn condition(&mut self) {
         self.push0();
         for _ in 0..self.rng.below(3) {
             self.inc();
@@ -161,7 +168,7 @@ impl Writer<'_> {
     }
 
     /// The top goes into a variable that may be overwritten, or away.
-    fn keep_or_drop(&mut self) {
+    pub(super) fn keep_or_drop(&mut self) {
         match self.pick(free) {
             Some(v) if self.rng.chance(2, 3) => self.store(v),
             _ => self.pop(),
@@ -169,7 +176,7 @@ impl Writer<'_> {
     }
 
     /// A new object, mostly kept.
-    fn object(&mut self) {
+    pub(super) fn object(&mut self) {
         let class = self.pick_class();
         if !self.make(class) {
             return;
@@ -179,42 +186,6 @@ impl Writer<'_> {
             None if self.rng.chance(1, 8) => {}
             None => self.keep_or_drop(),
         }
-    }
-
-    /// `new` with its handler settled; false if it can't be written here.
-    pub(super) fn make(&mut self, class: u8) -> bool {
-        if self.room() == 0 || !self.stack_free() {
-            return false;
-        }
-        let Some(handler) = self.choose_handler() else {
-            return false;
-        };
-        self.new_object(class, handler);
-        true
-    }
-
-    /// A handler that the variables fit, or none if they may go.
-    fn choose_handler(&mut self) -> Option<Option<Label>> {
-        let fitting: Vec<Label> = self
-            .active
-            .iter()
-            .copied()
-            .filter(|&label| self.now.variables_fit(&self.shape(label)))
-            .collect();
-        if !fitting.is_empty() && self.rng.chance(3, 4) {
-            return Some(Some(self.rng.pick(&fitting)));
-        }
-        if !self.tired()
-            && self
-                .rng
-                .chance(1, if self.variables_free() { 4 } else { 2 })
-        {
-            return Some(Some(self.label(self.now.emptied())));
-        }
-        if !self.variables_free() {
-            self.release_all();
-        }
-        self.variables_free().then_some(None)
     }
 
     /// A second name for an object: its pair is shared between both.
@@ -240,7 +211,7 @@ impl Writer<'_> {
     }
 
     /// The parts of a pair that stay with `v` and that go to the stack.
-    fn share(&mut self, v: usize) -> (Entry, Entry) {
+    pub(super) fn share(&mut self, v: usize) -> (Entry, Entry) {
         let Entry::Ref { class, pair } = self.now.variables[v] else {
             return (self.now.variables[v], self.now.variables[v]);
         };
@@ -290,7 +261,7 @@ impl Writer<'_> {
     }
 
     /// Enters once, at times again and again up to the edge of a pair.
-    fn take(&mut self, v: usize) {
+    pub(super) fn take(&mut self, v: usize) {
         let times = match self.rng.below(60) {
             0 => 63,
             1..=9 => 2,
@@ -304,22 +275,14 @@ impl Writer<'_> {
         }
     }
 
-    fn branch_under_lock(&mut self, nest: usize) {
-        match self.rng.below(5) {
-            0 => self.if_skips(nest),
-            1 => self.if_else(nest),
-            2 | 3 => self.if_ends(nest),
-            _ => self.while_loop(nest),
-        }
-    }
-
     /// A row may say less than is known; rarely, so little that the lock can
     /// never be given back and only an endless loop will do.
     fn weaken(&mut self) {
         let Some(v) = self.pick(|entry| entry != Entry::Top) else {
             return;
         };
-        let doom = self.rng.chance(1, 20);
+        // Such a loop throws, so the stack needs a place.
+        let doom = self.stack_limit > 0 && self.rng.chance(1, 20);
         let entry = &mut self.now.variables[v];
         match entry {
             Entry::Ref { pair, .. } if doom && pair.end > -63 => pair.end -= 1,
@@ -329,104 +292,11 @@ impl Writer<'_> {
         }
     }
 
-    /// if over a block: both ways meet in the shape before it.
-    fn if_skips(&mut self, nest: usize) {
-        if self.room() == 0 {
-            return self.block(nest);
-        }
-        let after = self.label(self.now.clone());
-        self.condition();
-        self.branch(after);
-        self.block(nest);
-        self.join(after);
-    }
-
-    /// Two arms that meet behind the second.
-    fn if_else(&mut self, nest: usize) {
-        if self.room() == 0 || !self.now.stack.is_empty() {
-            return self.if_skips(nest);
-        }
-        let other = self.label(self.now.clone());
-        let after = self.label(self.now.clone());
-        self.condition();
-        self.branch(other);
-        self.block(nest);
-        self.jump(after);
-        self.place(other);
-        self.block(nest);
-        self.join(after);
-    }
-
-    /// An arm that ends the thread, as in case A.
-    fn if_ends(&mut self, nest: usize) {
-        if self.room() == 0 {
-            return self.block(nest);
-        }
-        let other = self.label(self.now.clone());
-        self.condition();
-        self.branch(other);
-        if self.rng.chance(1, 2) {
-            self.block(nest);
-        }
-        self.finish();
-        self.place(other);
-    }
-
-    fn do_loop(&mut self, nest: usize) {
-        let top = self.label(self.now.clone());
-        self.place(top);
-        self.block(nest);
-        if self.settle(&self.shape(top)) && self.room() > 0 {
-            self.condition();
-            self.branch(top);
-        }
-    }
-
-    fn while_loop(&mut self, nest: usize) {
-        if self.room() == 0 || !self.now.stack.is_empty() {
-            return self.do_loop(nest);
-        }
-        let top = self.label(self.now.clone());
-        self.place(top);
-        let after = self.label(self.now.clone());
-        self.condition();
-        self.branch(after);
-        self.block(nest);
-        self.jump(top);
-        self.place(after);
-    }
-
-    /// A block whose failures go to one handler, written later.
-    fn try_region(&mut self, nest: usize) {
-        let handler = self.label(self.now.emptied());
-        self.active.push(handler);
-        self.object();
-        self.block(nest);
-        self.active.pop();
-    }
-
-    /// A block run over something left on the stack.
-    fn over_stack(&mut self, nest: usize) {
-        let depth = self.now.stack.len();
-        if self.room() == 0 {
-            return;
-        }
-        match self.pick(|entry| entry != Entry::Top) {
-            Some(v) if self.rng.chance(1, 2) => {
-                let (kept, given) = self.share(v);
-                self.load(v, kept, given);
-            }
-            _ => self.condition(),
-        }
-        self.block(nest);
-        self.drop_stack_to(depth);
-    }
-
     /// start, with its object and arguments pushed in their order.
     fn start_thread(&mut self) {
         let class = self.pick_class();
         let depth = self.now.stack.len();
-        let arguments = self.signatures[usize::from(class)].clone();
+        let arguments = &self.interface.signatures[usize::from(class)];
         if self.room() < arguments.len() + 1 {
             return;
         }
@@ -449,8 +319,7 @@ impl Writer<'_> {
 
     /// A reference that owes nothing, from a variable or new.
     fn push_reference(&mut self, class: u8) -> bool {
-        let own = |entry: Entry| matches!(entry, Entry::Ref { class: c, .. } if c == class);
-        match self.pick(own) {
+        match self.pick(|entry| entry.is_of(class)) {
             Some(v) if self.rng.chance(4, 5) => {
                 self.load(v, self.now.variables[v], Entry::fresh(class));
                 true

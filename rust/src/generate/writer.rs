@@ -29,11 +29,11 @@ impl Shape {
             .all(|(x, y)| x.fits(*y))
     }
 
-    /// The shape at a handler: the same variables, no stack.
-    pub fn emptied(&self) -> Shape {
+    /// The same variables over another stack.
+    pub fn with_stack(&self, stack: &[Entry]) -> Shape {
         Shape {
             variables: self.variables.clone(),
-            stack: vec![],
+            stack: stack.to_vec(),
         }
     }
 }
@@ -49,18 +49,24 @@ struct Spot {
     used: bool,
 }
 
+/// What methods of one bundle know of each other.
+#[derive(Clone, Debug)]
+pub struct Interface {
+    /// Every class's argument descriptors.
+    pub signatures: Vec<Vec<u8>>,
+    /// The class of what is thrown.
+    pub exception: u8,
+}
+
 /// The method under way.
 #[derive(Debug)]
 pub struct Writer<'r> {
     pub rng: &'r mut Rng,
-    /// The argument descriptors of every class of the bundle.
-    pub signatures: &'r [Vec<u8>],
+    pub interface: &'r Interface,
     pub stack_limit: usize,
     /// Past this many instructions, statements are no longer begun.
     pub budget: usize,
     pub now: Shape,
-    /// Handlers of the try regions around the present place.
-    pub active: Vec<Label>,
     /// A slip to exploit, once, inside a lock region.
     pub temptation: Option<Slip>,
     code: Vec<Instr>,
@@ -76,21 +82,20 @@ pub fn free(entry: Entry) -> bool {
 impl<'r> Writer<'r> {
     pub fn new(
         rng: &'r mut Rng,
-        signatures: &'r [Vec<u8>],
+        interface: &'r Interface,
         first: Vec<Entry>,
         stack_limit: usize,
         budget: usize,
     ) -> Writer<'r> {
         Writer {
             rng,
-            signatures,
+            interface,
             stack_limit,
             budget,
             now: Shape {
                 variables: first,
                 stack: vec![],
             },
-            active: vec![],
             temptation: None,
             code: vec![],
             rows: vec![],
@@ -178,7 +183,7 @@ impl<'r> Writer<'r> {
 
     pub fn start(&mut self, class: u8) {
         self.emit(Instr::Start(class));
-        let taken = self.signatures[usize::from(class)].len() + 1;
+        let taken = self.interface.signatures[usize::from(class)].len() + 1;
         self.now.stack.truncate(self.now.stack.len() - taken);
     }
 
@@ -216,6 +221,18 @@ impl<'r> Writer<'r> {
         self.spots[label.0].shape.clone()
     }
 
+    /// The labels at which this holds of the shape.
+    pub fn labels(&self, ok: impl Fn(&Shape) -> bool) -> Vec<Label> {
+        (0..self.spots.len())
+            .filter(|&i| ok(&self.spots[i].shape))
+            .map(Label)
+            .collect()
+    }
+
+    pub fn is_placed(&self, label: Label) -> bool {
+        self.spots[label.0].address.is_some()
+    }
+
     /// The label's code begins here, in the label's shape.
     pub fn place(&mut self, label: Label) {
         self.spots[label.0].address = Some(self.code.len() as u16 + 1);
@@ -228,14 +245,6 @@ impl<'r> Writer<'r> {
             .iter()
             .position(|spot| spot.used && spot.address.is_none())
             .map(Label)
-    }
-
-    /// Labels placed already where the stack is empty: athrow can go there.
-    pub fn placed_without_stack(&self) -> Vec<Label> {
-        (0..self.spots.len())
-            .filter(|&i| self.spots[i].address.is_some() && self.spots[i].shape.stack.is_empty())
-            .map(Label)
-            .collect()
     }
 
     /// The method, unless it has grown past 256 instructions.
