@@ -32,7 +32,7 @@ pub refused : map (λ (s : Slip). verdictOf (s .bundle)) slips ≡ map (λ (s : 
 unfolding allBelow firstBelow countBelow setBelow fillFrom quad refuse orThen scan zeroed instructionOf targetOk lastOk instructionOk headAt classAt width size recordFits partOf codeFrom instructionPlace codeAt instructionAt methodOf methodAt programOf lengthOk trailerOk directoryOk mainOk codeOk limitsOk descriptorOk descriptorsOk addressOk headOf shapeOf shapeAt shapesOf layoutOf tableAt tableOf tableOfClass tablesOf structureOf zeros pairOk entryOf entryFrom argumentEntry matches takes compare startBehind rowStart variableWord depthAt stackWord variableAt stackAt wantsLoaded edgeShort varsGo stackGoes entryFormed varsFormed stackFormed rowFormed firstVar firstVars firstRow incRule popRule push0Rule loadRule storeRule ifRule enterRule exitRule uncaughtGoes thrown throwRule newRule argumentGoes objectGoes argumentsGo startRule returnRule asked shortOf holds why formAt formsOf formsOfClass formsOfAll ruleVerdict rulesOf rulesOfClass rulesOfAll verdictOf topped pushed popped stored ended started withObject othersFree holdsNothing lowestFree placesRefer placedOk liveOk threadOk threadsOk firstOk objectsOk countOk threadCountsOk countsOk soleHolder soleHolders stateOk incStep popStep push0Step loadStep storeStep ifStep enterObject enterStep exitObject exitStep endStep throwStep athrowStep makeStep newStep isArgument argumentsOk startedBy startStep freshOf runOf stepOf
 refused = refl
 
-pub let-through : map (λ (s : Slip). s .weakened) slips ≡ true ∷ true ∷ true ∷ true ∷ true ∷ true ∷ true ∷ true ∷ true ∷ true ∷ true ∷ true ∷ true ∷ true ∷ []
+pub let-through : map (λ (s : Slip). s .weakened) slips ≡ true ∷ true ∷ true ∷ true ∷ true ∷ true ∷ true ∷ true ∷ true ∷ true ∷ true ∷ true ∷ true ∷ true ∷ true ∷ true ∷ []
 unfolding allBelow firstBelow countBelow setBelow fillFrom quad refuse orThen scan zeroed instructionOf targetOk lastOk instructionOk headAt classAt width size recordFits partOf codeFrom instructionPlace codeAt instructionAt methodOf methodAt programOf lengthOk trailerOk directoryOk mainOk codeOk limitsOk descriptorOk descriptorsOk addressOk headOf shapeOf shapeAt shapesOf layoutOf tableAt tableOf tableOfClass tablesOf structureOf zeros pairOk entryOf entryFrom argumentEntry matches takes compare startBehind rowStart variableWord depthAt stackWord variableAt stackAt wantsLoaded edgeShort varsGo stackGoes entryFormed varsFormed stackFormed rowFormed firstVar firstVars firstRow incRule popRule push0Rule loadRule storeRule ifRule enterRule exitRule uncaughtGoes thrown throwRule newRule argumentGoes objectGoes argumentsGo startRule returnRule asked shortOf holds why formAt formsOf formsOfClass formsOfAll ruleVerdict rulesOf rulesOfClass rulesOfAll verdictOf topped pushed popped stored ended started withObject othersFree holdsNothing lowestFree placesRefer placedOk liveOk threadOk threadsOk firstOk objectsOk countOk threadCountsOk countsOk soleHolder soleHolders stateOk incStep popStep push0Step loadStep storeStep ifStep enterObject enterStep exitObject exitStep endStep throwStep athrowStep makeStep newStep isArgument argumentsOk startedBy startStep freshOf runOf stepOf
 let-through = refl
 

@@ -64,6 +64,14 @@ newToDeeper c x y z =
 abbrev newToAny : ℕ → Row → Row → Row → Rule
 newToAny c x y z = rule (stackGoes x && eqb (z .depth) 1) (edge (pushed (made c) x) (wants y) ∷ edge (emptied x) (wants (emptied z)) ∷ [])
 
+-- the handler's variables not compared
+abbrev newToAnyVariables : ℕ → Row → Row → Row → Rule
+newToAnyVariables c x y z = rule (stackGoes x) (edge (pushed (made c) x) (wants y) ∷ edge (pushed (made 0) (emptied z)) (wants z) ∷ [])
+
+-- a failed new whose stack need not go, without a handler
+abbrev newKeepsStack : ℕ → ℕ → Row → Row → Rule
+newKeepsStack vars c x y = rule (varsGo vars x) (edge (pushed (made c) x) (wants y) ∷ [])
+
 -- athrow of any class
 abbrev throwAny : ℕ → ℕ → Row → Row → Rule
 throwAny vars h x z =
@@ -175,6 +183,33 @@ toDeeper =
 abbrev toAny : List ℕ
 toAny = catches ++ i 5 0 0 ++ i 8 0 0 ++ i 12 0 0 ++ caught ++ row top 1 (owing 0) ++ row (owing 0) 0 none ++ row (free 0) 0 none ++ one 78 6 94
 
+-- 1 new 0; 2 store 0; 3 monitorenter 0; 4 new 0, handler 8; 5 pop; 6 monitorexit 0; 7 return; 8 pop; 9 return: the handler forgets the lock
+abbrev toAnyVariables : List ℕ
+toAnyVariables =
+    locks ++ i 9 0 8 ++ i 2 0 0 ++ i 8 0 0 ++ i 12 0 0 ++ i 2 0 0 ++ i 12 0 0
+    ++ locked
+    ++ row (owing 0) 1 (free 0)
+    ++ row (owing 0) 0 none
+    ++ row (free 0) 0 none
+    ++ row top 1 (free 0)
+    ++ row top 0 none
+    ++ one 117 9 133
+
+-- 1 new 0; 2 store 0; 3 monitorenter 0; 4 load 0; 5 new 0, no handler; 6 pop; 7 store 0; 8 monitorexit 0; 9 return (K 2): the lock is on the stack
+abbrev onStack : List ℕ
+onStack =
+    locks ++ i 4 0 0 ++ i 9 0 0 ++ i 2 0 0 ++ i 5 0 0 ++ i 8 0 0 ++ i 12 0 0
+    ++ double top 0 none none
+    ++ double top 1 (free 0) none
+    ++ double (free 0) 0 none none
+    ++ double (owing 0) 0 none none
+    ++ double (free 0) 1 (owing 0) none
+    ++ double (free 0) 2 (free 0) (owing 0)
+    ++ double (free 0) 1 (owing 0) none
+    ++ double (owing 0) 0 none none
+    ++ double (free 0) 0 none none
+    ++ oneOf2 153 9 169
+
 -- 1 new 0; 2 athrow, no handler: X is class 1, which has the same record
 abbrev otherClass : List ℕ
 otherClass =
@@ -229,6 +264,8 @@ slips =
     ∷ record { bundle = toEmpty; address = 1; why = 0; weakened = holds 1 (newToEmpty 0 (at toEmpty 1) (at toEmpty 2) (at toEmpty 4)); schedule = failing 0 ∷ main 1; wanted = 0 ∷ 12 ∷ [] }
     ∷ record { bundle = toDeeper; address = 1; why = 0; weakened = holds 1 (newToDeeper 0 (at toDeeper 1) (at toDeeper 2) (at toDeeper 4)); schedule = failing 0 ∷ main 2; wanted = 0 ∷ 0 ∷ 11 ∷ [] }
     ∷ record { bundle = toAny; address = 1; why = 2; weakened = holds 1 (newToAny 0 (at toAny 1) (at toAny 2) (at toAny 4)); schedule = failing 0 ∷ main 2; wanted = 0 ∷ 0 ∷ 14 ∷ [] }
+    ∷ record { bundle = toAnyVariables; address = 4; why = 3; weakened = holds 1 (newToAnyVariables 0 (at toAnyVariables 4) (at toAnyVariables 5) (at toAnyVariables 8)); schedule = main 3 ++ (failing 0 ∷ main 2); wanted = 0 ∷ 0 ∷ 0 ∷ 0 ∷ 0 ∷ 15 ∷ [] }
+    ∷ record { bundle = onStack; address = 5; why = 0; weakened = holds 1 (newKeepsStack 1 0 (at onStack 5) (at onStack 6)); schedule = main 4 ++ (failing 0 ∷ []); wanted = 0 ∷ 0 ∷ 0 ∷ 0 ∷ 15 ∷ [] }
     ∷ record { bundle = otherClass; address = 2; why = 0; weakened = holds 1 (throwAny 1 0 (at otherClass 2) (at otherClass 2)); schedule = main 2; wanted = 0 ∷ 13 ∷ [] }
     ∷ record { bundle = restKept; address = 6; why = 0; weakened = holds 1 (throwKeepsRest 7 (at restKept 6) (at restKept 7)); schedule = main 8; wanted = 0 ∷ 0 ∷ 0 ∷ 0 ∷ 0 ∷ 0 ∷ 0 ∷ 15 ∷ [] }
     ∷ record { bundle = topEnds; address = 5; why = 0; weakened = holds 1 (endsWithTop 1 (at topEnds 5)); schedule = main 5; wanted = 0 ∷ 0 ∷ 0 ∷ 0 ∷ 15 ∷ [] }
