@@ -15,13 +15,13 @@ use Rattle.entries.specs.Fits.{takes, compare}
 use Rattle.rows.specs.Rows.{startBehind, rowStart, variableWord, depthAt, stackWord, variableAt, stackAt}
 use Rattle.matching.specs.Matching.{wantsLoaded, edgeShort, varsGo, stackGoes}
 use Rattle.forms.specs.Forms.{entryFormed, varsFormed, stackFormed, rowFormed, firstVar, firstVars, firstRow}
-use Rattle.rules.specs.Rule.{asked, shortOf, holds, why}
+use Rattle.rules.specs.Rule.{met, shortOf, holds, why}
 use Rattle.rules.specs.Rules.{incRule, popRule, push0Rule, loadRule, storeRule, ifRule, enterRule, exitRule, uncaughtGoes, thrown, throwRule, newRule, argumentGoes, objectGoes, argumentsGo, startRule, returnRule}
 use Rattle.verifier.specs.Verdict.{formAt, formsOf, formsOfClass, formsOfAll, ruleVerdict, rulesOf, rulesOfClass, rulesOfAll, verdictOf}
 use Rattle.cases.specs.Cases.{Case, cases, caseA, caseB, caseC}
 
 pub cases-hold : map (λ (c : Case). c .given) cases ≡ map (λ (c : Case). c .wanted) cases
-unfolding allBelow quad refuse orThen scan zeroed instructionOf targetOk lastOk instructionOk headAt classAt width size recordFits partOf codeFrom instructionPlace codeAt instructionAt methodOf methodAt programOf lengthOk trailerOk directoryOk mainOk codeOk limitsOk descriptorOk descriptorsOk addressOk headOf shapeOf shapeAt shapesOf layoutOf tableAt tableOf tableOfClass tablesOf structureOf zeros pairOk entryOf entryFrom argumentEntry matches takes compare startBehind rowStart variableWord depthAt stackWord variableAt stackAt wantsLoaded edgeShort varsGo stackGoes entryFormed varsFormed stackFormed rowFormed firstVar firstVars firstRow incRule popRule push0Rule loadRule storeRule ifRule enterRule exitRule uncaughtGoes thrown throwRule newRule argumentGoes objectGoes argumentsGo startRule returnRule asked shortOf holds why formAt formsOf formsOfClass formsOfAll ruleVerdict rulesOf rulesOfClass rulesOfAll verdictOf
+unfolding allBelow quad refuse orThen scan zeroed instructionOf targetOk lastOk instructionOk headAt classAt width size recordFits partOf codeFrom instructionPlace codeAt instructionAt methodOf methodAt programOf lengthOk trailerOk directoryOk mainOk codeOk limitsOk descriptorOk descriptorsOk addressOk headOf shapeOf shapeAt shapesOf layoutOf tableAt tableOf tableOfClass tablesOf structureOf zeros pairOk entryOf entryFrom argumentEntry matches takes compare startBehind rowStart variableWord depthAt stackWord variableAt stackAt wantsLoaded edgeShort varsGo stackGoes entryFormed varsFormed stackFormed rowFormed firstVar firstVars firstRow incRule popRule push0Rule loadRule storeRule ifRule enterRule exitRule uncaughtGoes thrown throwRule newRule argumentGoes objectGoes argumentsGo startRule returnRule met shortOf holds why formAt formsOf formsOfClass formsOfAll ruleVerdict rulesOf rulesOfClass rulesOfAll verdictOf
 cases-hold = refl
 
 -- record 117 bytes, directory at 117, whole bundle 133

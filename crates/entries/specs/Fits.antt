@@ -32,8 +32,8 @@ abbrev pub wantEntered : Entry → Want
 wantEntered y = record { kind = takes y; dip = dipOf y - 1; end = endOf y + 1 }
 
 -- monitorexit: d ≥ d'+1 and e ≥ e'-1
-abbrev pub wantLeft : Entry → Want
-wantLeft y = record { kind = takes y; dip = dipOf y + 1; end = endOf y - 1 }
+abbrev pub wantExited : Entry → Want
+wantExited y = record { kind = takes y; dip = dipOf y + 1; end = endOf y - 1 }
 
 -- load: to each as Top or as its own class, d ≥ the sum of both dips and e ≥ the sum of both ends
 abbrev pub wantBoth : Entry → Entry → Want

@@ -5,7 +5,7 @@ ghost use Prim.Native.Nat.{_+_, _-_, _≤_, _/_, _%_};
 ghost use lib.Dec.{leb};
 ghost use Rattle.ground.specs.Chain.{refuse};
 ghost use Rattle.entries.specs.Entries.{Int, Ref, pairOk, entryFrom, dipOf, endOf, kindOf, classOf, isInt, isTop, isReference, isBlank, isType, isOf, noEnd, argumentEntry, matches};
-ghost use Rattle.entries.specs.Fits.{mayGo, takes, compare, want, wantEntered, wantLeft, wantBoth};
+ghost use Rattle.entries.specs.Fits.{mayGo, takes, compare, want, wantEntered, wantExited, wantBoth};
 
 // The greatest dip, the least and the greatest end.
 const MAX_DIP: u8 = 63;
@@ -209,8 +209,8 @@ pub fn compare_entered(n: u8, w: u32, v: u32) -> u8
 }
 
 // monitorexit: w becomes v.
-pub fn compare_left(n: u8, w: u32, v: u32) -> u8
-    ensures { λ r. ⌜ r ≡ compare (entryFrom n w) (wantLeft (entryFrom n v)) ⌝ }
+pub fn compare_exited(n: u8, w: u32, v: u32) -> u8
+    ensures { λ r. ⌜ r ≡ compare (entryFrom n w) (wantExited (entryFrom n v)) ⌝ }
 {
     compared(
         takes(n, v, w),

@@ -14,7 +14,7 @@ use Rattle.entries.specs.Fits.{takes, compare}
 use Rattle.rows.specs.Rows.{startBehind, rowStart, variableWord, depthAt, stackWord, variableAt, stackAt}
 use Rattle.matching.specs.Matching.{wantsLoaded, edgeShort, varsGo, stackGoes}
 use Rattle.forms.specs.Forms.{entryFormed, varsFormed, stackFormed, rowFormed, firstVar, firstVars, firstRow}
-use Rattle.rules.specs.Rule.{asked, shortOf, holds, why}
+use Rattle.rules.specs.Rule.{met, shortOf, holds, why}
 use Rattle.rules.specs.Rules.{incRule, popRule, push0Rule, loadRule, storeRule, ifRule, enterRule, exitRule, uncaughtGoes, thrown, throwRule, newRule, argumentGoes, objectGoes, argumentsGo, startRule, returnRule}
 use Rattle.verifier.specs.Verdict.{formAt, formsOf, formsOfClass, formsOfAll, ruleVerdict, rulesOf, rulesOfClass, rulesOfAll, verdictOf}
 use Rattle.threads.specs.Threads.{topped, pushed, popped, stored, ended, started}
@@ -25,9 +25,9 @@ use Rattle.machine.specs.Machine.{freshOf, runOf, stepOf}
 use Rattle.examples.specs.Runs.{answersFrom, answers, Run, runs}
 
 pub accepted : map (λ (r : Run). verdictOf (r .bundle) .number) runs ≡ 0 ∷ 0 ∷ 0 ∷ 0 ∷ 0 ∷ []
-unfolding allBelow firstBelow countBelow setBelow fillFrom quad refuse orThen scan zeroed instructionOf targetOk lastOk instructionOk headAt classAt width size recordFits partOf codeFrom instructionPlace codeAt instructionAt methodOf methodAt programOf lengthOk trailerOk directoryOk mainOk codeOk limitsOk descriptorOk descriptorsOk addressOk headOf shapeOf shapeAt shapesOf layoutOf tableAt tableOf tableOfClass tablesOf structureOf zeros pairOk entryOf entryFrom argumentEntry matches takes compare startBehind rowStart variableWord depthAt stackWord variableAt stackAt wantsLoaded edgeShort varsGo stackGoes entryFormed varsFormed stackFormed rowFormed firstVar firstVars firstRow incRule popRule push0Rule loadRule storeRule ifRule enterRule exitRule uncaughtGoes thrown throwRule newRule argumentGoes objectGoes argumentsGo startRule returnRule asked shortOf holds why formAt formsOf formsOfClass formsOfAll ruleVerdict rulesOf rulesOfClass rulesOfAll verdictOf topped pushed popped stored ended started withObject othersFree holdsNothing lowestFree placesRefer placedOk liveOk threadOk threadsOk firstOk objectsOk countOk threadCountsOk countsOk soleHolder soleHolders stateOk incStep popStep push0Step loadStep storeStep ifStep enterObject enterStep exitObject exitStep endStep throwStep athrowStep makeStep newStep isArgument argumentsOk startedBy startStep freshOf runOf stepOf
+unfolding allBelow firstBelow countBelow setBelow fillFrom quad refuse orThen scan zeroed instructionOf targetOk lastOk instructionOk headAt classAt width size recordFits partOf codeFrom instructionPlace codeAt instructionAt methodOf methodAt programOf lengthOk trailerOk directoryOk mainOk codeOk limitsOk descriptorOk descriptorsOk addressOk headOf shapeOf shapeAt shapesOf layoutOf tableAt tableOf tableOfClass tablesOf structureOf zeros pairOk entryOf entryFrom argumentEntry matches takes compare startBehind rowStart variableWord depthAt stackWord variableAt stackAt wantsLoaded edgeShort varsGo stackGoes entryFormed varsFormed stackFormed rowFormed firstVar firstVars firstRow incRule popRule push0Rule loadRule storeRule ifRule enterRule exitRule uncaughtGoes thrown throwRule newRule argumentGoes objectGoes argumentsGo startRule returnRule met shortOf holds why formAt formsOf formsOfClass formsOfAll ruleVerdict rulesOf rulesOfClass rulesOfAll verdictOf topped pushed popped stored ended started withObject othersFree holdsNothing lowestFree placesRefer placedOk liveOk threadOk threadsOk firstOk objectsOk countOk threadCountsOk countsOk soleHolder soleHolders stateOk incStep popStep push0Step loadStep storeStep ifStep enterObject enterStep exitObject exitStep endStep throwStep athrowStep makeStep newStep isArgument argumentsOk startedBy startStep freshOf runOf stepOf
 accepted = refl
 
 pub answered : map (λ (r : Run). answers (r .bundle) (r .schedule)) runs ≡ map (λ (r : Run). r .wanted) runs
-unfolding answersFrom allBelow firstBelow countBelow setBelow fillFrom quad refuse orThen scan zeroed instructionOf targetOk lastOk instructionOk headAt classAt width size recordFits partOf codeFrom instructionPlace codeAt instructionAt methodOf methodAt programOf lengthOk trailerOk directoryOk mainOk codeOk limitsOk descriptorOk descriptorsOk addressOk headOf shapeOf shapeAt shapesOf layoutOf tableAt tableOf tableOfClass tablesOf structureOf zeros pairOk entryOf entryFrom argumentEntry matches takes compare startBehind rowStart variableWord depthAt stackWord variableAt stackAt wantsLoaded edgeShort varsGo stackGoes entryFormed varsFormed stackFormed rowFormed firstVar firstVars firstRow incRule popRule push0Rule loadRule storeRule ifRule enterRule exitRule uncaughtGoes thrown throwRule newRule argumentGoes objectGoes argumentsGo startRule returnRule asked shortOf holds why formAt formsOf formsOfClass formsOfAll ruleVerdict rulesOf rulesOfClass rulesOfAll verdictOf topped pushed popped stored ended started withObject othersFree holdsNothing lowestFree placesRefer placedOk liveOk threadOk threadsOk firstOk objectsOk countOk threadCountsOk countsOk soleHolder soleHolders stateOk incStep popStep push0Step loadStep storeStep ifStep enterObject enterStep exitObject exitStep endStep throwStep athrowStep makeStep newStep isArgument argumentsOk startedBy startStep freshOf runOf stepOf
+unfolding answersFrom allBelow firstBelow countBelow setBelow fillFrom quad refuse orThen scan zeroed instructionOf targetOk lastOk instructionOk headAt classAt width size recordFits partOf codeFrom instructionPlace codeAt instructionAt methodOf methodAt programOf lengthOk trailerOk directoryOk mainOk codeOk limitsOk descriptorOk descriptorsOk addressOk headOf shapeOf shapeAt shapesOf layoutOf tableAt tableOf tableOfClass tablesOf structureOf zeros pairOk entryOf entryFrom argumentEntry matches takes compare startBehind rowStart variableWord depthAt stackWord variableAt stackAt wantsLoaded edgeShort varsGo stackGoes entryFormed varsFormed stackFormed rowFormed firstVar firstVars firstRow incRule popRule push0Rule loadRule storeRule ifRule enterRule exitRule uncaughtGoes thrown throwRule newRule argumentGoes objectGoes argumentsGo startRule returnRule met shortOf holds why formAt formsOf formsOfClass formsOfAll ruleVerdict rulesOf rulesOfClass rulesOfAll verdictOf topped pushed popped stored ended started withObject othersFree holdsNothing lowestFree placesRefer placedOk liveOk threadOk threadsOk firstOk objectsOk countOk threadCountsOk countsOk soleHolder soleHolders stateOk incStep popStep push0Step loadStep storeStep ifStep enterObject enterStep exitObject exitStep endStep throwStep athrowStep makeStep newStep isArgument argumentsOk startedBy startStep freshOf runOf stepOf
 answered = refl

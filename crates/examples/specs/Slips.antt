@@ -43,11 +43,11 @@ abbrev returnAtMinusOne : ℕ → Row → Rule
 returnAtMinusOne vars x = rule (stackGoes x && allBelow vars (goesAtMinusOne x)) []
 
 -- exit that doesn't ask d
-abbrev wantLeftFree : Entry → Want
-wantLeftFree y = record { kind = takes y; dip = 0; end = endOf y - 1 }
+abbrev wantExitedFree : Entry → Want
+wantExitedFree y = record { kind = takes y; dip = 0; end = endOf y - 1 }
 
 abbrev exitWithoutDip : ℕ → Row → Row → Rule
-exitWithoutDip v x y = rule (isReference (x .variable v)) (edge x (wantsAt v (wantLeftFree (y .variable v)) y) ∷ [])
+exitWithoutDip v x y = rule (isReference (x .variable v)) (edge x (wantsAt v (wantExitedFree (y .variable v)) y) ∷ [])
 
 -- ---- .. of the throws (document 02, Q-6), X being class 0 and the handler's row z
 -- a handler whose row has depth 0

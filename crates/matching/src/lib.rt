@@ -2,7 +2,7 @@
 ghost use mathlib.Core.Path.{_≡_};
 ghost use Prim.Native.Nat.{_+_, _-_, _≤_};
 ghost use Rattle.entries.specs.Entries.{Int, Ref, noEnd, entryFrom};
-ghost use Rattle.entries.specs.Fits.{compare, want, wantEntered, wantLeft};
+ghost use Rattle.entries.specs.Fits.{compare, want, wantEntered, wantExited};
 ghost use Rattle.rows.specs.Rows.{depthAt, rowFrom};
 ghost use Rattle.matching.specs.Matching.{popped, pushed, stored, emptied, wants, wantsAt, wantsLoaded, edge, edgeShort, varGoes, varsGo, entryGoes, stackGoes};
 ghost use Rattle.matching.specs.Passes.{varShort, otherShort, restShort, varsPass, othersPass, restPass, pass, passBut};
@@ -213,10 +213,10 @@ pub fn entered_edge(n: u8, k: Class, r: &[u8], v: u8, p: u32, q: u32) -> u8
 }
 
 // .. and given back.
-pub fn left_edge(n: u8, k: Class, r: &[u8], v: u8, p: u32, q: u32) -> u8
-    ensures { λ o. ⌜ o ≡ edgeShort (k .vars) (edge (rowFrom n (now (r .entry)) (k .vars) p) (wantsAt v (wantLeft ((rowFrom n (now (r .entry)) (k .vars) q) .variable v)) (rowFrom n (now (r .entry)) (k .vars) q))) ⌝ }
+pub fn exited_edge(n: u8, k: Class, r: &[u8], v: u8, p: u32, q: u32) -> u8
+    ensures { λ o. ⌜ o ≡ edgeShort (k .vars) (edge (rowFrom n (now (r .entry)) (k .vars) p) (wantsAt v (wantExited ((rowFrom n (now (r .entry)) (k .vars) q) .variable v)) (rowFrom n (now (r .entry)) (k .vars) q))) ⌝ }
 {
-    let w = entries::compare_left(
+    let w = entries::compare_exited(
         n,
         rows::variable_word(r, p, k.vars, k.limit, v),
         rows::variable_word(r, q, k.vars, k.limit, v),

@@ -12,26 +12,26 @@ use Rattle.entries.proofs.Types.{compare-few}
 use Rattle.matching.specs.Matching.{Edge, meets, thenShort, edgeShort, variableShort, entryShort}
 use Rattle.matching.proofs.Scans.{then-nothing, then-few, first-few}
 use Rattle.rules.specs.declared.Ruling.{Ruling}
-use Rattle.rules.specs.Rule.{Rule, rule, allMeet, asked, shortAlong, shortOf, holds, why, unasked, ruling}
+use Rattle.rules.specs.Rule.{Rule, rule, allMeet, met, shortAlong, shortOf, holds, why, unmet, ruling}
 
 -- a ruling of what is asked, and of the comparisons
 abbrev pub judged : Bool → ℕ → Ruling
-judged a w = refuse a unasked (record { asked = true; short = w })
+judged a w = refuse a unmet (record { met = true; short = w })
 
 module _ (vars : ℕ) (r : Rule) where
-  pub ruling-holds : (ruling vars r .asked && eqb (ruling vars r .short) 0) ≡ holds vars r
+  pub ruling-holds : (ruling vars r .met && eqb (ruling vars r .short) 0) ≡ holds vars r
   unfolding ruling holds refuse
-  ruling-holds = go (asked r)
+  ruling-holds = go (met r)
     where
-      go : (t : Bool) → (refuse t unasked (record { asked = true; short = shortOf vars r }) .asked && eqb (refuse t unasked (record { asked = true; short = shortOf vars r }) .short) 0) ≡ (t && eqb (shortOf vars r) 0)
+      go : (t : Bool) → (refuse t unmet (record { met = true; short = shortOf vars r }) .met && eqb (refuse t unmet (record { met = true; short = shortOf vars r }) .short) 0) ≡ (t && eqb (shortOf vars r) 0)
       go true = refl
       go false = refl
 
   pub ruling-why : ruling vars r .short ≡ why vars r
   unfolding ruling why refuse
-  ruling-why = go (asked r)
+  ruling-why = go (met r)
     where
-      go : (t : Bool) → refuse t unasked (record { asked = true; short = shortOf vars r }) .short ≡ cond t (shortOf vars r) 0
+      go : (t : Bool) → refuse t unmet (record { met = true; short = shortOf vars r }) .short ≡ cond t (shortOf vars r) 0
       go true = refl
       go false = refl
 
@@ -46,7 +46,7 @@ along-few vars (e ∷ es) =
 
 pub why-few : (vars : ℕ) (r : Rule) → why vars r ≤ 3
 unfolding why shortOf
-why-few vars r = go (asked r)
+why-few vars r = go (met r)
   where
     go : (t : Bool) → cond t (shortAlong vars (r .edges)) 0 ≤ 3
     go true = along-few vars (r .edges)
@@ -69,32 +69,32 @@ and-swap false b c = refl
 
 module _ (vars : ℕ) (a : Bool) where
   pub ruling-none : ruling vars (rule a []) ≡ judged a 0
-  unfolding ruling asked shortOf
+  unfolding ruling met shortOf
   ruling-none = rw (and-true a)
 
   pub ruling-one : (e : Edge) → ruling vars (rule a (e ∷ [])) ≡ judged (a && meets e) (edgeShort vars e)
-  unfolding ruling asked shortOf
+  unfolding ruling met shortOf
   ruling-one e = rw (and-true (meets e), then-nothing (edgeShort vars e))
 
   -- any number of edges
   pub ruling-any : (es : List Edge) → ruling vars (rule a es) ≡ judged (a && allMeet es) (shortAlong vars es)
-  unfolding ruling asked shortOf
+  unfolding ruling met shortOf
   ruling-any es = refl
 
   -- any number of edges after the first
   pub ruling-more : (e : Edge) (es : List Edge) → ruling vars (rule a (e ∷ es)) ≡ judged ((a && allMeet es) && meets e) (thenShort (edgeShort vars e) (shortAlong vars es))
-  unfolding ruling asked shortOf
+  unfolding ruling met shortOf
   ruling-more e es = rw (and-swap a (allMeet es) (meets e))
 
 -- ---- what is asked and what is short, apart
 module _ (a : Bool) where
-  pub asked-one : (e : Edge) → asked (rule a (e ∷ [])) ≡ (a && meets e)
-  unfolding asked
-  asked-one e = rw (and-true (meets e))
+  pub met-one : (e : Edge) → met (rule a (e ∷ [])) ≡ (a && meets e)
+  unfolding met
+  met-one e = rw (and-true (meets e))
 
-  pub asked-two : (e f : Edge) → asked (rule a (e ∷ f ∷ [])) ≡ (a && (meets e && meets f))
-  unfolding asked
-  asked-two e f = rw (and-true (meets f))
+  pub met-two : (e f : Edge) → met (rule a (e ∷ f ∷ [])) ≡ (a && (meets e && meets f))
+  unfolding met
+  met-two e f = rw (and-true (meets f))
 
   pub short-one : (vars : ℕ) (e : Edge) → shortOf vars (rule a (e ∷ [])) ≡ edgeShort vars e
   unfolding shortOf
@@ -138,4 +138,4 @@ replaced-depth d e x = go (leb 1 d) refl
     go false p = refl
 
 abbrev pub found : ℕ → Ruling
-found w = record { asked = true; short = w }
+found w = record { met = true; short = w }

@@ -16,53 +16,53 @@ use Rattle.rows.specs.Rows.{Row}
 use Rattle.matching.specs.Matching.{popped, pushed, emptied, wants, edge, thenShort, edgeShort, varsGo, stackGoes}
 use Rattle.matching.proofs.Scans.{then-nothing}
 use Rattle.matching.proofs.Edges.{thrown-edge}
-use Rattle.rules.specs.Rule.{allMeet, asked, shortAlong, unasked, ruling}
+use Rattle.rules.specs.Rule.{allMeet, met, shortAlong, unmet, ruling}
 use Rattle.rules.specs.Rules.{incRule, popRule, storeRule, ifRule, uncaughtGoes, thrown, made, throwRule, newRule, startRule, ruleOf}
-use Rattle.rules.proofs.Judging.{judged, and-true, and-assoc, ruling-any, ruling-more, asked-one, asked-two, popped-depth, popped-depths, replaced-depth}
+use Rattle.rules.proofs.Judging.{judged, and-true, and-assoc, ruling-any, ruling-more, met-one, met-two, popped-depth, popped-depths, replaced-depth}
 
-pub inc-asked : (x y : Row) → asked (incRule x y) ≡ ((leb 1 (x .depth) && isInt (x .stack 0)) && eqb (x .depth) (y .depth))
+pub inc-met : (x y : Row) → met (incRule x y) ≡ ((leb 1 (x .depth) && isInt (x .stack 0)) && eqb (x .depth) (y .depth))
 unfolding incRule
-inc-asked x y = asked-one _ _ ∙ replaced-depth (x .depth) (y .depth) (isInt (x .stack 0))
+inc-met x y = met-one _ _ ∙ replaced-depth (x .depth) (y .depth) (isInt (x .stack 0))
 
-pub pop-asked : (x y : Row) → asked (popRule x y) ≡ (mayGo (x .stack 0) && eqb (x .depth) (y .depth + 1))
+pub pop-met : (x y : Row) → met (popRule x y) ≡ (mayGo (x .stack 0) && eqb (x .depth) (y .depth + 1))
 unfolding popRule
-pop-asked x y = asked-one _ _ ∙ popped-depth (x .depth) (y .depth) (mayGo (x .stack 0))
+pop-met x y = met-one _ _ ∙ popped-depth (x .depth) (y .depth) (mayGo (x .stack 0))
 
-pub store-asked : (v : ℕ) (x y : Row) → asked (storeRule v x y) ≡ (mayGo (x .variable v) && eqb (x .depth) (y .depth + 1))
+pub store-met : (v : ℕ) (x y : Row) → met (storeRule v x y) ≡ (mayGo (x .variable v) && eqb (x .depth) (y .depth + 1))
 unfolding storeRule
-store-asked v x y = asked-one _ _ ∙ popped-depth (x .depth) (y .depth) (mayGo (x .variable v))
+store-met v x y = met-one _ _ ∙ popped-depth (x .depth) (y .depth) (mayGo (x .variable v))
 
-pub if-asked : (x y z : Row) → asked (ifRule x y z) ≡ (isInt (x .stack 0) && (eqb (x .depth) (y .depth + 1) && eqb (x .depth) (z .depth + 1)))
+pub if-met : (x y z : Row) → met (ifRule x y z) ≡ (isInt (x .stack 0) && (eqb (x .depth) (y .depth + 1) && eqb (x .depth) (z .depth + 1)))
 unfolding ifRule
-if-asked x y z = asked-two _ _ _ ∙ popped-depths (x .depth) (y .depth) (z .depth) (isInt (x .stack 0))
+if-met x y z = met-two _ _ _ ∙ popped-depths (x .depth) (y .depth) (z .depth) (isInt (x .stack 0))
 
 -- a stack never holds 256 entries, since its depth is a byte
 pub start-too-many : (vars args : ℕ) (descriptor : ℕ → ℕ) (c : ℕ) (x y : Row) → x .depth < args + 1
-    → ruling vars (startRule args descriptor c x y) ≡ unasked
-unfolding startRule ruling asked refuse
+    → ruling vars (startRule args descriptor c x y) ≡ unmet
+unfolding startRule ruling met refuse
 start-too-many vars args descriptor c x y l = rw (lt-leb (args + 1) (x .depth) l)
 
 -- what is no instruction breaks the rule
 pub zeroed-rule : (P : Program) (vars : ℕ) (row : ℕ → Row) (l field : ℕ) (i : Instruction)
-    → ruling vars (ruleOf P vars row l (zeroed field i)) ≡ refuse (eqb field 0) unasked (ruling vars (ruleOf P vars row l i))
-unfolding zeroed ruling asked refuse
+    → ruling vars (ruleOf P vars row l (zeroed field i)) ≡ refuse (eqb field 0) unmet (ruling vars (ruleOf P vars row l i))
+unfolding zeroed ruling met refuse
 zeroed-rule P vars row l field i = go (eqb field 0)
   where
-    go : (t : Bool) → ruling vars (ruleOf P vars row l (refuse t Nothing i)) ≡ refuse t unasked (ruling vars (ruleOf P vars row l i))
+    go : (t : Bool) → ruling vars (ruleOf P vars row l (refuse t Nothing i)) ≡ refuse t unmet (ruling vars (ruleOf P vars row l i))
     go true = refl
     go false = refl
 
 -- ---- a throw of e, with the handler h: what goes uncaught is told together with the handler's depth, the variables apart from e
 module _ (vars h : ℕ) (e : Entry) (x z : Row) where
-  abbrev pub throwAsked : Bool
-  throwAsked = cond (eqb h 0) (mayGo e && varsGo vars x) (eqb 1 (z .depth))
+  abbrev pub throwMet : Bool
+  throwMet = cond (eqb h 0) (mayGo e && varsGo vars x) (eqb 1 (z .depth))
 
   abbrev pub throwShort : ℕ
   throwShort = cond (eqb h 0) 0 (thenShort (edgeShort vars (edge (emptied x) (wants z))) (compare e (want (z .stack 0))))
 
-  throw-asked : (uncaughtGoes vars h e x && allMeet (thrown h e x z)) ≡ throwAsked
+  throw-met : (uncaughtGoes vars h e x && allMeet (thrown h e x z)) ≡ throwMet
   unfolding uncaughtGoes thrown
-  throw-asked = go (eqb h 0)
+  throw-met = go (eqb h 0)
     where
       go : (t : Bool) → (cond t (mayGo e && varsGo vars x) true && allMeet (cond t [] (edge (pushed e (emptied x)) (wants z) ∷ []))) ≡ cond t (mayGo e && varsGo vars x) (eqb 1 (z .depth))
       go true = and-true _
@@ -78,17 +78,17 @@ module _ (vars h : ℕ) (e : Entry) (x z : Row) where
 
 pub throw-ruling : (vars exception h : ℕ) (x z : Row)
     → ruling vars (throwRule vars exception h x z)
-    ≡ judged ((leb 1 (x .depth) && isOf exception (x .stack 0) && stackGoes (popped 1 x)) && throwAsked vars h (x .stack 0) x z) (throwShort vars h (x .stack 0) x z)
+    ≡ judged ((leb 1 (x .depth) && isOf exception (x .stack 0) && stackGoes (popped 1 x)) && throwMet vars h (x .stack 0) x z) (throwShort vars h (x .stack 0) x z)
 unfolding throwRule
 throw-ruling vars exception h x z =
-    rw (and-assoc (leb 1 (x .depth) && isOf exception (x .stack 0) && stackGoes (popped 1 x)) (uncaughtGoes vars h (x .stack 0) x) (allMeet (thrown h (x .stack 0) x z)), throw-asked vars h (x .stack 0) x z, throw-short vars h (x .stack 0) x z)
+    rw (and-assoc (leb 1 (x .depth) && isOf exception (x .stack 0) && stackGoes (popped 1 x)) (uncaughtGoes vars h (x .stack 0) x) (allMeet (thrown h (x .stack 0) x z)), throw-met vars h (x .stack 0) x z, throw-short vars h (x .stack 0) x z)
     at (ruling-any vars (leb 1 (x .depth) && isOf exception (x .stack 0) && stackGoes (popped 1 x) && uncaughtGoes vars h (x .stack 0) x) (thrown h (x .stack 0) x z))
 
 pub new-ruling : (vars exception c h : ℕ) (x y z : Row)
     → ruling vars (newRule vars exception c h x y z)
-    ≡ judged ((stackGoes x && throwAsked vars h (made exception) x z) && eqb (x .depth + 1) (y .depth))
+    ≡ judged ((stackGoes x && throwMet vars h (made exception) x z) && eqb (x .depth + 1) (y .depth))
     (thenShort (edgeShort vars (edge (pushed (made c) x) (wants y))) (throwShort vars h (made exception) x z))
 unfolding newRule
 new-ruling vars exception c h x y z =
-    rw (and-assoc (stackGoes x) (uncaughtGoes vars h (made exception) x) (allMeet (thrown h (made exception) x z)), throw-asked vars h (made exception) x z, throw-short vars h (made exception) x z)
+    rw (and-assoc (stackGoes x) (uncaughtGoes vars h (made exception) x) (allMeet (thrown h (made exception) x z)), throw-met vars h (made exception) x z, throw-short vars h (made exception) x z)
     at (ruling-more vars (stackGoes x && uncaughtGoes vars h (made exception) x) (edge (pushed (made c) x) (wants y)) (thrown h (made exception) x z))

@@ -20,9 +20,9 @@ abbrev pub allMeet : List Edge → Bool
 allMeet [] = true
 allMeet (e ∷ es) = meets e && allMeet es
 
--- a depth, the kind of an entry named in row l, or a "may go"
-unfoldable pub asked : Rule → Bool
-asked r = r .asks && allMeet (r .edges)
+-- what is asked is met: depths, the kinds of the entries named in row l, and "may go"
+unfoldable pub met : Rule → Bool
+met r = r .asks && allMeet (r .edges)
 
 -- the first comparison that isn't 0, and 0 where there is none
 abbrev pub shortAlong : ℕ → List Edge → ℕ
@@ -34,15 +34,15 @@ shortOf vars r = shortAlong vars (r .edges)
 
 -- the rule holds
 unfoldable pub holds : ℕ → Rule → Bool
-holds vars r = asked r && eqb (shortOf vars r) 0
+holds vars r = met r && eqb (shortOf vars r) 0
 
 -- why it does not: 0 where something asked fails, otherwise the number of the first entry that fails
 unfoldable pub why : ℕ → Rule → ℕ
-why vars r = cond (asked r) (shortOf vars r) 0
+why vars r = cond (met r) (shortOf vars r) 0
 
 -- both at once, as the code finds them
-abbrev pub unasked : Ruling
-unasked = record { asked = false; short = 0 }
+abbrev pub unmet : Ruling
+unmet = record { met = false; short = 0 }
 
 unfoldable pub ruling : ℕ → Rule → Ruling
-ruling vars r = refuse (asked r) unasked (record { asked = true; short = shortOf vars r })
+ruling vars r = refuse (met r) unmet (record { met = true; short = shortOf vars r })

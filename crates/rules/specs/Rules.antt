@@ -8,7 +8,7 @@ use Rattle.instructions.specs.declared.Instruction.{Instruction}
 use Rattle.instructions.specs.declared.Instruction.the-variants.{Inc, Pop, Push0, Load, Store, If, Enter, Exit, New, Start, Throw, Return, Nothing}
 use Rattle.bundle.specs.Program.{Program}
 use Rattle.entries.specs.Entries.{Entry, Int, Ref, noEnd, isInt, isReference, isOf, matches}
-use Rattle.entries.specs.Fits.{mayGo, wantEntered, wantLeft}
+use Rattle.entries.specs.Fits.{mayGo, wantEntered, wantExited}
 use Rattle.rows.specs.Rows.{Row}
 use Rattle.matching.specs.Matching.{popped, pushed, stored, emptied, wants, wantsAt, wantsLoaded, Edge, edge, varsGo, stackGoes}
 use Rattle.rules.specs.Rule.{Rule, rule}
@@ -43,7 +43,7 @@ enterRule v x y = rule (isReference (x .variable v)) (edge x (wantsAt v (wantEnt
 
 -- monitorexit v: likewise, d ≥ d'+1 and e ≥ e'-1
 unfoldable pub exitRule : ℕ → Row → Row → Rule
-exitRule v x y = rule (isReference (x .variable v)) (edge x (wantsAt v (wantLeft (y .variable v)) y) ∷ [])
+exitRule v x y = rule (isReference (x .variable v)) (edge x (wantsAt v (wantExited (y .variable v)) y) ∷ [])
 
 -- a throw of the entry e, with the handler h (0 is none; document 02, Q-6): with none, e and each variable may go
 unfoldable pub uncaughtGoes : ℕ → ℕ → Entry → Row → Bool

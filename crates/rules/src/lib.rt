@@ -9,7 +9,7 @@ ghost use Rattle.bundle.specs.Program.{programOf};
 ghost use Rattle.instructions.specs.Table.{decoded};
 ghost use Rattle.rows.specs.Rows.{rowFrom, rowAt};
 ghost use Rattle.matching.specs.Matching.{emptied, wants, edge, thenShort, edgeShort, varsGo};
-ghost use Rattle.rules.specs.Rule.{asked, unasked, ruling};
+ghost use Rattle.rules.specs.Rule.{met, unmet, ruling};
 ghost use Rattle.rules.specs.Rules.{incRule, popRule, push0Rule, loadRule, storeRule, ifRule, enterRule, exitRule, throwRule, newRule, argumentGoes, objectGoes, argumentsGo, startRule, returnRule, ruleOf};
 use bundle::Class;
 use instructions::Addr;
@@ -17,20 +17,20 @@ use instructions::Code;
 
 // Whether what a rule asks is there, and then the first comparison that isn't 0.
 pub struct Ruling {
-    pub asked: bool,
+    pub met: bool,
     pub short: u8,
 }
 
-fn judged(asked: bool, short: u8) -> Ruling
-    ensures { λ o. ⌜ o ≡ refuse asked unasked (record { asked = true; short = short }) ⌝ }
+fn judged(met: bool, short: u8) -> Ruling
+    ensures { λ o. ⌜ o ≡ refuse met unmet (record { met = true; short = short }) ⌝ }
 {
-    if !asked {
+    if !met {
         return Ruling {
-            asked: false,
+            met: false,
             short: 0,
         };
     }
-    Ruling { asked: true, short }
+    Ruling { met: true, short }
 }
 
 fn then_short(first: u8, second: u8) -> u8
@@ -42,8 +42,8 @@ fn then_short(first: u8, second: u8) -> u8
     second
 }
 
-fn inc_asks(n: u8, k: Class, r: &[u8], p: u32, q: u32) -> bool
-    ensures { λ o. ⌜ o ≡ asked (incRule (rowFrom n (now (r .entry)) (k .vars) p) (rowFrom n (now (r .entry)) (k .vars) q)) ⌝ }
+fn inc_met(n: u8, k: Class, r: &[u8], p: u32, q: u32) -> bool
+    ensures { λ o. ⌜ o ≡ met (incRule (rowFrom n (now (r .entry)) (k .vars) p) (rowFrom n (now (r .entry)) (k .vars) q)) ⌝ }
 {
     let d = matching::depth_of(k, r, p);
     (1 <= d)
@@ -54,20 +54,20 @@ fn inc_asks(n: u8, k: Class, r: &[u8], p: u32, q: u32) -> bool
 fn inc_rule(n: u8, k: Class, r: &[u8], p: u32, q: u32) -> Ruling
     ensures { λ o. ⌜ o ≡ ruling (k .vars) (incRule (rowFrom n (now (r .entry)) (k .vars) p) (rowFrom n (now (r .entry)) (k .vars) q)) ⌝ }
 {
-    if !inc_asks(n, k, r, p, q) {
+    if !inc_met(n, k, r, p, q) {
         return Ruling {
-            asked: false,
+            met: false,
             short: 0,
         };
     }
     Ruling {
-        asked: true,
+        met: true,
         short: matching::counted_edge(n, k, r, p, q),
     }
 }
 
-fn pop_asks(n: u8, k: Class, r: &[u8], p: u32, q: u32) -> bool
-    ensures { λ o. ⌜ o ≡ asked (popRule (rowFrom n (now (r .entry)) (k .vars) p) (rowFrom n (now (r .entry)) (k .vars) q)) ⌝ }
+fn pop_met(n: u8, k: Class, r: &[u8], p: u32, q: u32) -> bool
+    ensures { λ o. ⌜ o ≡ met (popRule (rowFrom n (now (r .entry)) (k .vars) p) (rowFrom n (now (r .entry)) (k .vars) q)) ⌝ }
 {
     entries::may_go(n, rows::stack_word(r, p, k.vars, k.limit, 0))
         & (matching::depth_of(k, r, p) == matching::depth_of(k, r, q) + 1)
@@ -76,20 +76,20 @@ fn pop_asks(n: u8, k: Class, r: &[u8], p: u32, q: u32) -> bool
 fn pop_rule(n: u8, k: Class, r: &[u8], p: u32, q: u32) -> Ruling
     ensures { λ o. ⌜ o ≡ ruling (k .vars) (popRule (rowFrom n (now (r .entry)) (k .vars) p) (rowFrom n (now (r .entry)) (k .vars) q)) ⌝ }
 {
-    if !pop_asks(n, k, r, p, q) {
+    if !pop_met(n, k, r, p, q) {
         return Ruling {
-            asked: false,
+            met: false,
             short: 0,
         };
     }
     Ruling {
-        asked: true,
+        met: true,
         short: matching::popped_edge(n, k, r, 1, p, q),
     }
 }
 
-fn push0_asks(n: u8, k: Class, r: &[u8], p: u32, q: u32) -> bool
-    ensures { λ o. ⌜ o ≡ asked (push0Rule (rowFrom n (now (r .entry)) (k .vars) p) (rowFrom n (now (r .entry)) (k .vars) q)) ⌝ }
+fn push0_met(n: u8, k: Class, r: &[u8], p: u32, q: u32) -> bool
+    ensures { λ o. ⌜ o ≡ met (push0Rule (rowFrom n (now (r .entry)) (k .vars) p) (rowFrom n (now (r .entry)) (k .vars) q)) ⌝ }
 {
     matching::depth_of(k, r, p) + 1 == matching::depth_of(k, r, q)
 }
@@ -97,20 +97,20 @@ fn push0_asks(n: u8, k: Class, r: &[u8], p: u32, q: u32) -> bool
 fn push0_rule(n: u8, k: Class, r: &[u8], p: u32, q: u32) -> Ruling
     ensures { λ o. ⌜ o ≡ ruling (k .vars) (push0Rule (rowFrom n (now (r .entry)) (k .vars) p) (rowFrom n (now (r .entry)) (k .vars) q)) ⌝ }
 {
-    if !push0_asks(n, k, r, p, q) {
+    if !push0_met(n, k, r, p, q) {
         return Ruling {
-            asked: false,
+            met: false,
             short: 0,
         };
     }
     Ruling {
-        asked: true,
+        met: true,
         short: matching::int_edge(n, k, r, p, q),
     }
 }
 
-fn load_asks(n: u8, k: Class, r: &[u8], v: u8, p: u32, q: u32) -> bool
-    ensures { λ o. ⌜ o ≡ asked (loadRule v (rowFrom n (now (r .entry)) (k .vars) p) (rowFrom n (now (r .entry)) (k .vars) q)) ⌝ }
+fn load_met(n: u8, k: Class, r: &[u8], v: u8, p: u32, q: u32) -> bool
+    ensures { λ o. ⌜ o ≡ met (loadRule v (rowFrom n (now (r .entry)) (k .vars) p) (rowFrom n (now (r .entry)) (k .vars) q)) ⌝ }
 {
     matching::depth_of(k, r, p) + 1 == matching::depth_of(k, r, q)
 }
@@ -118,20 +118,20 @@ fn load_asks(n: u8, k: Class, r: &[u8], v: u8, p: u32, q: u32) -> bool
 fn load_rule(n: u8, k: Class, r: &[u8], v: u8, p: u32, q: u32) -> Ruling
     ensures { λ o. ⌜ o ≡ ruling (k .vars) (loadRule v (rowFrom n (now (r .entry)) (k .vars) p) (rowFrom n (now (r .entry)) (k .vars) q)) ⌝ }
 {
-    if !load_asks(n, k, r, v, p, q) {
+    if !load_met(n, k, r, v, p, q) {
         return Ruling {
-            asked: false,
+            met: false,
             short: 0,
         };
     }
     Ruling {
-        asked: true,
+        met: true,
         short: matching::loaded_edge(n, k, r, v, p, q),
     }
 }
 
-fn store_asks(n: u8, k: Class, r: &[u8], v: u8, p: u32, q: u32) -> bool
-    ensures { λ o. ⌜ o ≡ asked (storeRule v (rowFrom n (now (r .entry)) (k .vars) p) (rowFrom n (now (r .entry)) (k .vars) q)) ⌝ }
+fn store_met(n: u8, k: Class, r: &[u8], v: u8, p: u32, q: u32) -> bool
+    ensures { λ o. ⌜ o ≡ met (storeRule v (rowFrom n (now (r .entry)) (k .vars) p) (rowFrom n (now (r .entry)) (k .vars) q)) ⌝ }
 {
     entries::may_go(n, rows::variable_word(r, p, k.vars, k.limit, v))
         & (matching::depth_of(k, r, p) == matching::depth_of(k, r, q) + 1)
@@ -140,20 +140,20 @@ fn store_asks(n: u8, k: Class, r: &[u8], v: u8, p: u32, q: u32) -> bool
 fn store_rule(n: u8, k: Class, r: &[u8], v: u8, p: u32, q: u32) -> Ruling
     ensures { λ o. ⌜ o ≡ ruling (k .vars) (storeRule v (rowFrom n (now (r .entry)) (k .vars) p) (rowFrom n (now (r .entry)) (k .vars) q)) ⌝ }
 {
-    if !store_asks(n, k, r, v, p, q) {
+    if !store_met(n, k, r, v, p, q) {
         return Ruling {
-            asked: false,
+            met: false,
             short: 0,
         };
     }
     Ruling {
-        asked: true,
+        met: true,
         short: matching::stored_edge(n, k, r, v, p, q),
     }
 }
 
-fn if_asks(n: u8, k: Class, r: &[u8], p: u32, q: u32, h: u32) -> bool
-    ensures { λ o. ⌜ o ≡ asked (ifRule (rowFrom n (now (r .entry)) (k .vars) p) (rowFrom n (now (r .entry)) (k .vars) q) (rowFrom n (now (r .entry)) (k .vars) h)) ⌝ }
+fn if_met(n: u8, k: Class, r: &[u8], p: u32, q: u32, h: u32) -> bool
+    ensures { λ o. ⌜ o ≡ met (ifRule (rowFrom n (now (r .entry)) (k .vars) p) (rowFrom n (now (r .entry)) (k .vars) q) (rowFrom n (now (r .entry)) (k .vars) h)) ⌝ }
 {
     let d = matching::depth_of(k, r, p);
     entries::is_int(n, rows::stack_word(r, p, k.vars, k.limit, 0))
@@ -163,14 +163,14 @@ fn if_asks(n: u8, k: Class, r: &[u8], p: u32, q: u32, h: u32) -> bool
 fn if_rule(n: u8, k: Class, r: &[u8], p: u32, q: u32, h: u32) -> Ruling
     ensures { λ o. ⌜ o ≡ ruling (k .vars) (ifRule (rowFrom n (now (r .entry)) (k .vars) p) (rowFrom n (now (r .entry)) (k .vars) q) (rowFrom n (now (r .entry)) (k .vars) h)) ⌝ }
 {
-    if !if_asks(n, k, r, p, q, h) {
+    if !if_met(n, k, r, p, q, h) {
         return Ruling {
-            asked: false,
+            met: false,
             short: 0,
         };
     }
     Ruling {
-        asked: true,
+        met: true,
         short: then_short(
             matching::popped_edge(n, k, r, 1, p, q),
             matching::popped_edge(n, k, r, 1, p, h),
@@ -178,8 +178,8 @@ fn if_rule(n: u8, k: Class, r: &[u8], p: u32, q: u32, h: u32) -> Ruling
     }
 }
 
-fn enter_asks(n: u8, k: Class, r: &[u8], v: u8, p: u32, q: u32) -> bool
-    ensures { λ o. ⌜ o ≡ asked (enterRule v (rowFrom n (now (r .entry)) (k .vars) p) (rowFrom n (now (r .entry)) (k .vars) q)) ⌝ }
+fn enter_met(n: u8, k: Class, r: &[u8], v: u8, p: u32, q: u32) -> bool
+    ensures { λ o. ⌜ o ≡ met (enterRule v (rowFrom n (now (r .entry)) (k .vars) p) (rowFrom n (now (r .entry)) (k .vars) q)) ⌝ }
 {
     entries::is_reference(n, rows::variable_word(r, p, k.vars, k.limit, v))
         & (matching::depth_of(k, r, p) == matching::depth_of(k, r, q))
@@ -188,20 +188,20 @@ fn enter_asks(n: u8, k: Class, r: &[u8], v: u8, p: u32, q: u32) -> bool
 fn enter_rule(n: u8, k: Class, r: &[u8], v: u8, p: u32, q: u32) -> Ruling
     ensures { λ o. ⌜ o ≡ ruling (k .vars) (enterRule v (rowFrom n (now (r .entry)) (k .vars) p) (rowFrom n (now (r .entry)) (k .vars) q)) ⌝ }
 {
-    if !enter_asks(n, k, r, v, p, q) {
+    if !enter_met(n, k, r, v, p, q) {
         return Ruling {
-            asked: false,
+            met: false,
             short: 0,
         };
     }
     Ruling {
-        asked: true,
+        met: true,
         short: matching::entered_edge(n, k, r, v, p, q),
     }
 }
 
-fn exit_asks(n: u8, k: Class, r: &[u8], v: u8, p: u32, q: u32) -> bool
-    ensures { λ o. ⌜ o ≡ asked (exitRule v (rowFrom n (now (r .entry)) (k .vars) p) (rowFrom n (now (r .entry)) (k .vars) q)) ⌝ }
+fn exit_met(n: u8, k: Class, r: &[u8], v: u8, p: u32, q: u32) -> bool
+    ensures { λ o. ⌜ o ≡ met (exitRule v (rowFrom n (now (r .entry)) (k .vars) p) (rowFrom n (now (r .entry)) (k .vars) q)) ⌝ }
 {
     entries::is_reference(n, rows::variable_word(r, p, k.vars, k.limit, v))
         & (matching::depth_of(k, r, p) == matching::depth_of(k, r, q))
@@ -210,20 +210,20 @@ fn exit_asks(n: u8, k: Class, r: &[u8], v: u8, p: u32, q: u32) -> bool
 fn exit_rule(n: u8, k: Class, r: &[u8], v: u8, p: u32, q: u32) -> Ruling
     ensures { λ o. ⌜ o ≡ ruling (k .vars) (exitRule v (rowFrom n (now (r .entry)) (k .vars) p) (rowFrom n (now (r .entry)) (k .vars) q)) ⌝ }
 {
-    if !exit_asks(n, k, r, v, p, q) {
+    if !exit_met(n, k, r, v, p, q) {
         return Ruling {
-            asked: false,
+            met: false,
             short: 0,
         };
     }
     Ruling {
-        asked: true,
-        short: matching::left_edge(n, k, r, v, p, q),
+        met: true,
+        short: matching::exited_edge(n, k, r, v, p, q),
     }
 }
 
 // What a throw asks besides the stack; `goes` is whether what is thrown may go.
-fn throw_asks(n: u8, k: Class, r: &[u8], handler: u16, goes: bool, p: u32, h: u32) -> bool
+fn throw_met(n: u8, k: Class, r: &[u8], handler: u16, goes: bool, p: u32, h: u32) -> bool
     ensures { λ o. ⌜ o ≡ cond (eqb handler 0) (goes && varsGo (k .vars) (rowFrom n (now (r .entry)) (k .vars) p)) (eqb 1 (rowFrom n (now (r .entry)) (k .vars) h .depth)) ⌝ }
 {
     if handler == 0 {
@@ -252,7 +252,7 @@ fn throw_rule(n: u8, k: Class, r: &[u8], x: u8, handler: u16, p: u32, h: u32) ->
         (1 <= matching::depth_of(k, r, p))
             & entries::is_of(n, x, top)
             & matching::rest_goes(n, k, r, p)
-            & throw_asks(n, k, r, handler, entries::may_go(n, top), p, h),
+            & throw_met(n, k, r, handler, entries::may_go(n, top), p, h),
         thrown_short(n, k, r, handler, t, p, h),
     )
 }
@@ -264,7 +264,7 @@ fn new_rule(n: u8, k: Class, r: &[u8], x: u8, c: u8, handler: u16, p: u32, q: u3
     let t = entries::compare_made(n, x, rows::stack_word(r, h, k.vars, k.limit, 0));
     judged(
         matching::stack_goes(n, k, r, p)
-            & throw_asks(n, k, r, handler, true, p, h)
+            & throw_met(n, k, r, handler, true, p, h)
             & (matching::depth_of(k, r, p) + 1 == matching::depth_of(k, r, q)),
         then_short(
             matching::made_edge(n, k, r, c, p, q),
@@ -311,7 +311,7 @@ fn start_rule(n: u8, k: Class, r: &[u8], s: &[u8], args: u8, c: u8, p: u32, q: u
 {
     if args == 255 {
         return Ruling {
-            asked: false,
+            met: false,
             short: 0,
         };
     }
@@ -342,11 +342,11 @@ fn start_of(b: &[u8], n: u8, k: Class, r: &[u8], c: u8, p: u32, q: u32) -> Rulin
 
 // Where the table says 0, anything else is no instruction, and breaks the rule.
 fn zeroed(field: u16, o: Ruling) -> Ruling
-    ensures { λ x. ⌜ x ≡ refuse (eqb field 0) unasked o ⌝ }
+    ensures { λ x. ⌜ x ≡ refuse (eqb field 0) unmet o ⌝ }
 {
     if field != 0 {
         return Ruling {
-            asked: false,
+            met: false,
             short: 0,
         };
     }
@@ -382,7 +382,7 @@ pub fn rule_of(b: &[u8], n: u8, k: Class, r: &[u8], l: Addr, x: Code) -> Ruling
         ),
         12 => zeroed(zero, zeroed(address, return_rule(n, k, r, p))),
         _ => Ruling {
-            asked: false,
+            met: false,
             short: 0,
         },
     }

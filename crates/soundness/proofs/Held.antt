@@ -13,7 +13,7 @@ use Rattle.entries.specs.Entries.{Entry, dipOf, endOf}
 use Rattle.entries.specs.Fits.{Want, compare}
 use Rattle.matching.specs.Matching.{Edge, meets, isShort, firstShort, variableShort, entryShort, edgeShort}
 use Rattle.matching.proofs.Scans.{not-short, then-zero}
-use Rattle.rules.specs.Rule.{Rule, allMeet, asked, shortAlong, shortOf, holds}
+use Rattle.rules.specs.Rule.{Rule, allMeet, met, shortAlong, shortOf, holds}
 
 -- ---- one comparison
 pub record Meets (x : Entry) (w : Want) : Type 0 where
@@ -65,7 +65,7 @@ all-fit vars (e ∷ es) m h =
     (fits-edge vars e (and-fst (meets e) (allMeet es) m) (z .0), all-fit vars es (and-snd (meets e) (allMeet es) m) (z .1))
 
 pub held : (vars : ℕ) (r : Rule) → holds vars r ≡ true → (r .asks ≡ true) × AllFit vars (r .edges)
-unfolding holds asked shortOf
+unfolding holds met shortOf
 held vars r h =
     let a : (r .asks && allMeet (r .edges)) ≡ true = and-fst (r .asks && allMeet (r .edges)) (eqb (shortAlong vars (r .edges)) 0) h in (
       and-fst (r .asks) (allMeet (r .edges)) a,

@@ -12,7 +12,7 @@ use Rattle.ground.proofs.Bounded.{all-elim}
 use Rattle.instructions.specs.declared.Var.{Var}
 use Rattle.bundle.specs.Program.{Program}
 use Rattle.entries.specs.Entries.{isReference}
-use Rattle.entries.specs.Fits.{wantEntered, wantLeft}
+use Rattle.entries.specs.Fits.{wantEntered, wantExited}
 use Rattle.rows.specs.Rows.{Row}
 use Rattle.matching.specs.Matching.{wants, edge}
 use Rattle.matching.specs.Matching as rows
@@ -104,14 +104,14 @@ module _ (P : Program) (R : ℕ → ℕ → Row) (A : Accepted P R) (s : State) 
       (count-same P R s i li away O (cnt O + 1) lo) (p .0)))))
 
   -- monitorexit's rule: the thread holds the object that it leaves
-  holds-it : isReference (here .variable (v .0)) ≡ true → Meets (here .variable (v .0)) (wantLeft (next .variable (v .0))) → 0 < cnt O
+  holds-it : isReference (here .variable (v .0)) ≡ true → Meets (here .variable (v .0)) (wantExited (next .variable (v .0))) → 0 < cnt O
   holds-it q m = omega (arith, m .dip, dip-promises vars w16 (s .objects) cls cnt here T e16 st (v .0) l q (known q))
 
   pub exit-good : Next → holds vars (exitRule (v .0) here next) ≡ true → Good P R s i (exitStep s i T v)
   unfolding exitRule exitStep exitObject
   exit-good ad e =
       let r = held vars (exitRule (v .0) here next) e in
-      let p = fits-at vars (v .0) here next l (wantLeft (next .variable (v .0))) (r .1 .0) in
+      let p = fits-at vars (v .0) here next l (wantExited (next .variable (v .0))) (r .1 .0) in
       let lo : O < 32 = known (r .0) in
       let some : 0 < cnt O = holds-it (r .0) (p .0) in
       passes P R s i _ 13 _ (ap not (is-object vars w16 (s .objects) cls cnt here T e16 st (v .0) l (r .0)))
@@ -125,4 +125,4 @@ module _ (P : Program) (R : ℕ → ℕ → Row) (A : Accepted P R) (s : State) 
   unfolding exitRule
   leaves-held e =
       let r = held vars (exitRule (v .0) here next) e in
-      holds-it (r .0) (fits-at vars (v .0) here next l (wantLeft (next .variable (v .0))) (r .1 .0) .0)
+      holds-it (r .0) (fits-at vars (v .0) here next l (wantExited (next .variable (v .0))) (r .1 .0) .0)

@@ -12,7 +12,7 @@ use Rattle.ground.specs.Bounded.{fillFrom}
 use Rattle.ground.proofs.Bools.{and-fst, and-snd}
 use Rattle.ground.proofs.Writes.{fill-length}
 use Rattle.entries.specs.Entries.{Entry, Int, Blank, noEnd, dipOf, endOf, isInt, isReference}
-use Rattle.entries.specs.Fits.{Want, takes, want, wantEntered, wantLeft, wantBoth}
+use Rattle.entries.specs.Fits.{Want, takes, want, wantEntered, wantExited, wantBoth}
 use Rattle.entries.proofs.Types.{fits-itself}
 use Rattle.rows.specs.Rows.{Row}
 use Rattle.matching.specs.Matching.{wants, wantsAt, wantsLoaded, edge}
@@ -322,7 +322,7 @@ module _ (vars : ℕ) (v16 : vars ≤ 16) (n : ℕ) (cls k : ℕ → ℕ) (x : R
           (keep-enter n cls (slotOf vars x) (valueOf t) k (slotOf vars (rows.stored v y x)) (valueOf t) m v (omega arith) each refl kind rest
           (λ o l f. rw (same o f) at up) (rw (sx, sy) (omega (arith, w .dip))) (rw (sx, sy) (w .end)) (h .balanced))
 
-      pub exit-stands : k (objectOf (varOf t v)) ≡ m (objectOf (varOf t v)) + 1 → Meets (x .variable v) (wantLeft y) → Stands vars n cls m (rows.stored v y x) t
+      pub exit-stands : k (objectOf (varOf t v)) ≡ m (objectOf (varOf t v)) + 1 → Meets (x .variable v) (wantExited y) → Stands vars n cls m (rows.stored v y x) t
       exit-stands down w =
           moved
           (keep-exit n cls (slotOf vars x) (valueOf t) k (slotOf vars (rows.stored v y x)) (valueOf t) m v (omega arith) each refl kind rest

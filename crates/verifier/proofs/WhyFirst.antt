@@ -15,7 +15,7 @@ use Rattle.structure.specs.Verdicts.{verdict, isBad}
 use Rattle.structure.specs.Places as structure
 use Rattle.matching.specs.Matching.{Edge, isShort, thenShort, firstShort, variableShort, entryShort, edgeShort}
 use Rattle.matching.proofs.Scans.{nothing-then, then-nothing, then-assoc, not-short}
-use Rattle.rules.specs.Rule.{Rule, asked, shortAlong, shortOf, why}
+use Rattle.rules.specs.Rule.{Rule, met, shortAlong, shortOf, why}
 use Rattle.rules.specs.Rule as rules
 use Rattle.rules.proofs.Judging.{why-few}
 use Rattle.verifier.specs.Verdict.{verdictOf}
@@ -63,13 +63,13 @@ lead-first (x ∷ l) h = go (isShort x) refl h (lead-first l)
 -- of a rule that does not hold
 explains : (vars : ℕ) (r : Rule) → rules.holds vars r ≡ false → Explains vars r (why vars r)
 unfolding rules.holds why shortOf
-explains vars r h = go (asked r) refl h
+explains vars r h = go (met r) refl h
   where
-    go : (t : Bool) → asked r ≡ t → (t && eqb (shortAlong vars (r .edges)) 0) ≡ false → Explains vars r (cond t (shortAlong vars (r .edges)) 0)
-    go false q h = record { unasked = λ _. q; short = λ l. absurd (omega arith) }
+    go : (t : Bool) → met r ≡ t → (t && eqb (shortAlong vars (r .edges)) 0) ≡ false → Explains vars r (cond t (shortAlong vars (r .edges)) 0)
+    go false q h = record { unmet = λ _. q; short = λ l. absurd (omega arith) }
     go true q h =
         record {
-          unasked = λ z. never (eq-eqb _ 0 z) h;
+          unmet = λ z. never (eq-eqb _ 0 z) h;
           short = λ l. (q, rw (lead-along vars (r .edges)) at (lead-first (comparisons vars (r .edges)) (rw (lead-along vars (r .edges)) l)));
         }
 

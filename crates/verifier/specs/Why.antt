@@ -6,7 +6,7 @@ use Prim.Native.Nat.{ℕ, zero, suc, _<_, _≤_}
 use Rattle.bundle.specs.Container.{classAt}
 use Rattle.structure.specs.declared.Verdict.{Verdict}
 use Rattle.matching.specs.Matching.{Edge, variableShort, entryShort}
-use Rattle.rules.specs.Rule.{Rule, asked}
+use Rattle.rules.specs.Rule.{Rule, met}
 use Rattle.verifier.specs.Places.{Address, ruleIn}
 
 -- f 0, .., f (n - 1)
@@ -32,8 +32,8 @@ pub record First (l : List ℕ) (w : ℕ) : Type 0 where
 
 -- why 0: something asked fails; why w above 0: all that is asked holds, and w is the first comparison that isn't 0
 pub record Explains (vars : ℕ) (r : Rule) (w : ℕ) : Type 0 where
-  pub unasked : w ≡ 0 → asked r ≡ false
-  pub short : 0 < w → (asked r ≡ true) × First (comparisons vars (r .edges)) w
+  pub unmet : w ≡ 0 → met r ≡ false
+  pub short : 0 < w → (met r ≡ true) × First (comparisons vars (r .edges)) w
 
 -- of a verdict: a 9 names an address of the bundle whose rule its why explains; no other verdict has a why; it is 0 to 3
 pub record WhyFirst (b : List ℕ) (v : Verdict) : Type 0 where

@@ -76,7 +76,7 @@ fn rule_verdict(b: &[u8], n: u8, c: u8, k: Class, r: &[u8], i: u16) -> Verdict
 {
     let l = Addr(i + 1);
     let o = rules::rule_of(b, n, k, r, l, bundle::code_at(k, r, l));
-    if !(o.asked & (o.short == 0)) {
+    if !(o.met & (o.short == 0)) {
         return Verdict {
             number: 9,
             class: c,

@@ -7,19 +7,19 @@ use borrow.Author.Needs.{needs}
 use Rattle.rules.proofs.enter_rule.Statement.{statement}
 use Rattle.rules.proofs.enter_rule.Tie as tie
 
-enter-asks-requires : tie.Need-enter-asks-requires
-enter-asks-requires c κs = search needs
+enter-met-requires : tie.Need-enter-met-requires
+enter-met-requires c κs = search needs
 
 returns : tie.Need-returns
 unfolding ruling
-returns c = stop _ _ (c .before .enter-asks .ensures) (c .if1 .taken)
+returns c = stop _ _ (c .before .enter-met .ensures) (c .if1 .taken)
 
 entered-edge-requires : tie.Need-entered-edge-requires
 entered-edge-requires c κs = search needs
 
 returns-2 : tie.Need-returns-2
 unfolding ruling enterRule
-returns-2 c = go _ (c .before .before .enter-asks .ensures) (c .before .if1 .left) (ap found (c .entered-edge .ensures ∙ sym (short-one _ _ _)))
+returns-2 c = go _ (c .before .before .enter-met .ensures) (c .before .if1 .left) (ap found (c .entered-edge .ensures ∙ sym (short-one _ _ _)))
 
 pub enter-rule-spec : {M : Type 1} → statement M
-enter-rule-spec = tie.close (tie.spec enter-asks-requires returns entered-edge-requires returns-2)
+enter-rule-spec = tie.close (tie.spec enter-met-requires returns entered-edge-requires returns-2)

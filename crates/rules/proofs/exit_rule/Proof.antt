@@ -7,19 +7,19 @@ use borrow.Author.Needs.{needs}
 use Rattle.rules.proofs.exit_rule.Statement.{statement}
 use Rattle.rules.proofs.exit_rule.Tie as tie
 
-exit-asks-requires : tie.Need-exit-asks-requires
-exit-asks-requires c κs = search needs
+exit-met-requires : tie.Need-exit-met-requires
+exit-met-requires c κs = search needs
 
 returns : tie.Need-returns
 unfolding ruling
-returns c = stop _ _ (c .before .exit-asks .ensures) (c .if1 .taken)
+returns c = stop _ _ (c .before .exit-met .ensures) (c .if1 .taken)
 
-left-edge-requires : tie.Need-left-edge-requires
-left-edge-requires c κs = search needs
+exited-edge-requires : tie.Need-exited-edge-requires
+exited-edge-requires c κs = search needs
 
 returns-2 : tie.Need-returns-2
 unfolding ruling exitRule
-returns-2 c = go _ (c .before .before .exit-asks .ensures) (c .before .if1 .left) (ap found (c .left-edge .ensures ∙ sym (short-one _ _ _)))
+returns-2 c = go _ (c .before .before .exit-met .ensures) (c .before .if1 .left) (ap found (c .exited-edge .ensures ∙ sym (short-one _ _ _)))
 
 pub exit-rule-spec : {M : Type 1} → statement M
-exit-rule-spec = tie.close (tie.spec exit-asks-requires returns left-edge-requires returns-2)
+exit-rule-spec = tie.close (tie.spec exit-met-requires returns exited-edge-requires returns-2)

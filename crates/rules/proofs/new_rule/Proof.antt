@@ -14,8 +14,8 @@ compare-made-requires c κs = search needs
 stack-goes-requires : tie.Need-stack-goes-requires
 stack-goes-requires c κs = search needs
 
-throw-asks-requires : tie.Need-throw-asks-requires
-throw-asks-requires c κs = search needs
+throw-met-requires : tie.Need-throw-met-requires
+throw-met-requires c κs = search needs
 
 depth-of-requires : tie.Need-depth-of-requires
 depth-of-requires c κs = search needs
@@ -40,7 +40,7 @@ judged-requires c κs = search needs
 
 returns : tie.Need-returns
 unfolding stackAt
-returns c = (rw (c .before .then-short .ensures, c .before .before .thrown-short .ensures, c .before .before .before .made-edge .ensures, c .before .before .before .before .depth-of2 .ensures .0, c .before .before .before .before .before .depth-of .ensures .0, c .before .before .before .before .before .before .throw-asks .ensures, c .before .before .before .before .before .before .before .stack-goes .ensures, c .before .before .before .before .before .before .before .before .compare-made .ensures, c .before .before .before .before .before .before .before .before .before .stack-word .ensures) at (c .judged .ensures)) ∙ sym (new-ruling _ _ _ _ _ _ _)
+returns c = (rw (c .before .then-short .ensures, c .before .before .thrown-short .ensures, c .before .before .before .made-edge .ensures, c .before .before .before .before .depth-of2 .ensures .0, c .before .before .before .before .before .depth-of .ensures .0, c .before .before .before .before .before .before .throw-met .ensures, c .before .before .before .before .before .before .before .stack-goes .ensures, c .before .before .before .before .before .before .before .before .compare-made .ensures, c .before .before .before .before .before .before .before .before .before .stack-word .ensures) at (c .judged .ensures)) ∙ sym (new-ruling _ _ _ _ _ _ _)
 
 pub new-rule-spec : {M : Type 1} → statement M
 new-rule-spec =
@@ -49,7 +49,7 @@ new-rule-spec =
     stack-word-requires
     compare-made-requires
     stack-goes-requires
-    throw-asks-requires
+    throw-met-requires
     depth-of-requires
     add-judged
     depth-of-requires-2

@@ -7,19 +7,19 @@ use borrow.Author.Needs.{needs}
 use Rattle.rules.proofs.pop_rule.Statement.{statement}
 use Rattle.rules.proofs.pop_rule.Tie as tie
 
-pop-asks-requires : tie.Need-pop-asks-requires
-pop-asks-requires c κs = search needs
+pop-met-requires : tie.Need-pop-met-requires
+pop-met-requires c κs = search needs
 
 returns : tie.Need-returns
 unfolding ruling
-returns c = stop _ _ (c .before .pop-asks .ensures) (c .if1 .taken)
+returns c = stop _ _ (c .before .pop-met .ensures) (c .if1 .taken)
 
 popped-edge-requires : tie.Need-popped-edge-requires
 popped-edge-requires c κs = search needs
 
 returns-2 : tie.Need-returns-2
 unfolding ruling popRule
-returns-2 c = go _ (c .before .before .pop-asks .ensures) (c .before .if1 .left) (ap found (c .popped-edge .ensures ∙ sym (short-one _ _ _)))
+returns-2 c = go _ (c .before .before .pop-met .ensures) (c .before .if1 .left) (ap found (c .popped-edge .ensures ∙ sym (short-one _ _ _)))
 
 pub pop-rule-spec : {M : Type 1} → statement M
-pop-rule-spec = tie.close (tie.spec pop-asks-requires returns popped-edge-requires returns-2)
+pop-rule-spec = tie.close (tie.spec pop-met-requires returns popped-edge-requires returns-2)

@@ -7,19 +7,19 @@ use borrow.Author.Needs.{needs}
 use Rattle.rules.proofs.push0_rule.Statement.{statement}
 use Rattle.rules.proofs.push0_rule.Tie as tie
 
-push0-asks-requires : tie.Need-push0-asks-requires
-push0-asks-requires c κs = search needs
+push0-met-requires : tie.Need-push0-met-requires
+push0-met-requires c κs = search needs
 
 returns : tie.Need-returns
 unfolding ruling
-returns c = stop _ _ (c .before .push0-asks .ensures) (c .if1 .taken)
+returns c = stop _ _ (c .before .push0-met .ensures) (c .if1 .taken)
 
 int-edge-requires : tie.Need-int-edge-requires
 int-edge-requires c κs = search needs
 
 returns-2 : tie.Need-returns-2
 unfolding ruling push0Rule
-returns-2 c = go _ (c .before .before .push0-asks .ensures) (c .before .if1 .left) (ap found (c .int-edge .ensures ∙ sym (short-one _ _ _)))
+returns-2 c = go _ (c .before .before .push0-met .ensures) (c .before .if1 .left) (ap found (c .int-edge .ensures ∙ sym (short-one _ _ _)))
 
 pub push0-rule-spec : {M : Type 1} → statement M
-push0-rule-spec = tie.close (tie.spec push0-asks-requires returns int-edge-requires returns-2)
+push0-rule-spec = tie.close (tie.spec push0-met-requires returns int-edge-requires returns-2)

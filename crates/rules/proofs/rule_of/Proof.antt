@@ -2,7 +2,7 @@ use borrow.Author.Tests.{ne-eqb}
 use Rattle.instructions.specs.Table.{instructionOf}
 use Rattle.ground.specs.Chain.{refuse}
 use Rattle.bundle.specs.Program.{programOf}
-use Rattle.rules.specs.Rule.{ruling, asked}
+use Rattle.rules.specs.Rule.{ruling, met}
 use Rattle.rules.proofs.Rules.{zeroed-rule}
 use borrow.Author.Needs.{needs}
 use Rattle.rules.proofs.rule_of.Statement.{statement}
@@ -156,7 +156,7 @@ unfolding instructionOf
 returns-12 c = rw (c .before .before .before .match .keys12, zeroed-rule _ _ _ _ _ _, zeroed-rule _ _ _ _ _ _, ← c .before .before .before .before .before .before .row-start .ensures, ← c .before .before .return-rule .ensures, ← c .before .zeroed14 .ensures) (c .zeroed15 .ensures)
 
 returns-13 : tie.Need-returns-13
-unfolding instructionOf ruling asked refuse
+unfolding instructionOf ruling met refuse
 returns-13 c = let r = c .match .rest in simp (ne-eqb _ _ (r .1), ne-eqb _ _ (r .0 .1), ne-eqb _ _ (r .0 .0 .1), ne-eqb _ _ (r .0 .0 .0 .1), ne-eqb _ _ (r .0 .0 .0 .0 .1), ne-eqb _ _ (r .0 .0 .0 .0 .0 .1), ne-eqb _ _ (r .0 .0 .0 .0 .0 .0 .1), ne-eqb _ _ (r .0 .0 .0 .0 .0 .0 .0 .1), ne-eqb _ _ (r .0 .0 .0 .0 .0 .0 .0 .0 .1), ne-eqb _ _ (r .0 .0 .0 .0 .0 .0 .0 .0 .0 .1), ne-eqb _ _ (r .0 .0 .0 .0 .0 .0 .0 .0 .0 .0 .1), ne-eqb _ _ (r .0 .0 .0 .0 .0 .0 .0 .0 .0 .0 .0 .1))
 
 pub rule-of-spec : {M : Type 1} → statement M

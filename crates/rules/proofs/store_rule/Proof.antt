@@ -7,19 +7,19 @@ use borrow.Author.Needs.{needs}
 use Rattle.rules.proofs.store_rule.Statement.{statement}
 use Rattle.rules.proofs.store_rule.Tie as tie
 
-store-asks-requires : tie.Need-store-asks-requires
-store-asks-requires c κs = search needs
+store-met-requires : tie.Need-store-met-requires
+store-met-requires c κs = search needs
 
 returns : tie.Need-returns
 unfolding ruling
-returns c = stop _ _ (c .before .store-asks .ensures) (c .if1 .taken)
+returns c = stop _ _ (c .before .store-met .ensures) (c .if1 .taken)
 
 stored-edge-requires : tie.Need-stored-edge-requires
 stored-edge-requires c κs = search needs
 
 returns-2 : tie.Need-returns-2
 unfolding ruling storeRule
-returns-2 c = go _ (c .before .before .store-asks .ensures) (c .before .if1 .left) (ap found (c .stored-edge .ensures ∙ sym (short-one _ _ _)))
+returns-2 c = go _ (c .before .before .store-met .ensures) (c .before .if1 .left) (ap found (c .stored-edge .ensures ∙ sym (short-one _ _ _)))
 
 pub store-rule-spec : {M : Type 1} → statement M
-store-rule-spec = tie.close (tie.spec store-asks-requires returns stored-edge-requires returns-2)
+store-rule-spec = tie.close (tie.spec store-met-requires returns stored-edge-requires returns-2)

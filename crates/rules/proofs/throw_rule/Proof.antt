@@ -26,8 +26,8 @@ rest-goes-requires c κs = search needs
 may-go-requires : tie.Need-may-go-requires
 may-go-requires c κs = search needs
 
-throw-asks-requires : tie.Need-throw-asks-requires
-throw-asks-requires c κs = search needs
+throw-met-requires : tie.Need-throw-met-requires
+throw-met-requires c κs = search needs
 
 thrown-short-requires : tie.Need-thrown-short-requires
 thrown-short-requires c κs = search needs
@@ -37,7 +37,7 @@ judged-requires c κs = search needs
 
 returns : tie.Need-returns
 unfolding stackAt
-returns c = (rw (c .before .thrown-short .ensures, c .before .before .throw-asks .ensures, c .before .before .before .may-go .ensures, c .before .before .before .before .rest-goes .ensures, c .before .before .before .before .before .is-of .ensures, c .before .before .before .before .before .before .depth-of .ensures .0, c .before .before .before .before .before .before .before .compare .ensures, c .before .before .before .before .before .before .before .before .stack-word2 .ensures, c .before .before .before .before .before .before .before .before .before .stack-word .ensures) at (c .judged .ensures)) ∙ sym (throw-ruling _ _ _ _ _)
+returns c = (rw (c .before .thrown-short .ensures, c .before .before .throw-met .ensures, c .before .before .before .may-go .ensures, c .before .before .before .before .rest-goes .ensures, c .before .before .before .before .before .is-of .ensures, c .before .before .before .before .before .before .depth-of .ensures .0, c .before .before .before .before .before .before .before .compare .ensures, c .before .before .before .before .before .before .before .before .stack-word2 .ensures, c .before .before .before .before .before .before .before .before .before .stack-word .ensures) at (c .judged .ensures)) ∙ sym (throw-ruling _ _ _ _ _)
 
 pub throw-rule-spec : {M : Type 1} → statement M
 throw-rule-spec =
@@ -50,7 +50,7 @@ throw-rule-spec =
     is-of-requires
     rest-goes-requires
     may-go-requires
-    throw-asks-requires
+    throw-met-requires
     thrown-short-requires
     judged-requires
     returns)

@@ -24,11 +24,11 @@ add-t14 c = search needs
 
 returns : tie.Need-returns
 unfolding ruleVerdict instructionAt
-returns c = rw (← c .before .before .before .before .code-at .ensures, ← ruling-why _ _, ← c .before .before .before .rule-of .ensures) (stop _ _ (ap (λ (o : Ruling). o .asked && eqb (o .short) 0) (c .before .before .before .rule-of .ensures) ∙ ruling-holds _ _) (c .if1 .taken))
+returns c = rw (← c .before .before .before .before .code-at .ensures, ← ruling-why _ _, ← c .before .before .before .rule-of .ensures) (stop _ _ (ap (λ (o : Ruling). o .met && eqb (o .short) 0) (c .before .before .before .rule-of .ensures) ∙ ruling-holds _ _) (c .if1 .taken))
 
 returns-2 : tie.Need-returns-2
 unfolding ruleVerdict instructionAt
-returns-2 c = rw (← c .before .before .before .before .code-at .ensures) (go _ (ap (λ (o : Ruling). o .asked && eqb (o .short) 0) (c .before .before .before .rule-of .ensures) ∙ ruling-holds _ _) (c .if1 .left) (search needs))
+returns-2 c = rw (← c .before .before .before .before .code-at .ensures) (go _ (ap (λ (o : Ruling). o .met && eqb (o .short) 0) (c .before .before .before .rule-of .ensures) ∙ ruling-holds _ _) (c .if1 .left) (search needs))
 
 pub rule-verdict-spec : {M : Type 1} → statement M
 rule-verdict-spec =

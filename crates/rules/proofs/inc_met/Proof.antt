@@ -1,9 +1,9 @@
 use Rattle.rows.specs.Rows.{stackAt}
-use Rattle.rules.proofs.Rules.{inc-asked}
+use Rattle.rules.proofs.Rules.{inc-met}
 use mathlib.Core.Path.{sym}
 use borrow.Author.Needs.{needs}
-use Rattle.rules.proofs.inc_asks.Statement.{statement}
-use Rattle.rules.proofs.inc_asks.Tie as tie
+use Rattle.rules.proofs.inc_met.Statement.{statement}
+use Rattle.rules.proofs.inc_met.Tie as tie
 
 depth-of-requires : tie.Need-depth-of-requires
 depth-of-requires c κs = search needs
@@ -19,9 +19,9 @@ depth-of-requires-2 c κs = search needs
 
 returns : tie.Need-returns
 unfolding stackAt
-returns c = rw (c .before .is-int .ensures, c .before .before .stack-word .ensures, c .before .before .before .depth-of .ensures .0, c .depth-of2 .ensures .0) (sym (inc-asked _ _))
+returns c = rw (c .before .is-int .ensures, c .before .before .stack-word .ensures, c .before .before .before .depth-of .ensures .0, c .depth-of2 .ensures .0) (sym (inc-met _ _))
 
-pub inc-asks-spec : {M : Type 1} → statement M
-inc-asks-spec =
+pub inc-met-spec : {M : Type 1} → statement M
+inc-met-spec =
     tie.close
     (tie.spec depth-of-requires stack-word-requires is-int-requires depth-of-requires-2 returns)

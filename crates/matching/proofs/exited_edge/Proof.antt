@@ -2,8 +2,8 @@ use Rattle.rows.specs.Rows.{variableAt}
 use Rattle.matching.proofs.Edges.{moved-edge}
 use mathlib.Core.Path.{sym, _∙_}
 use borrow.Author.Needs.{needs}
-use Rattle.matching.proofs.left_edge.Statement.{statement}
-use Rattle.matching.proofs.left_edge.Tie as tie
+use Rattle.matching.proofs.exited_edge.Statement.{statement}
+use Rattle.matching.proofs.exited_edge.Tie as tie
 
 variable-word-requires : tie.Need-variable-word-requires
 variable-word-requires c κs = search needs
@@ -11,22 +11,22 @@ variable-word-requires c κs = search needs
 variable-word-requires-2 : tie.Need-variable-word-requires-2
 variable-word-requires-2 c κs = search needs
 
-compare-left-requires : tie.Need-compare-left-requires
-compare-left-requires c κs = search needs
+compare-exited-requires : tie.Need-compare-exited-requires
+compare-exited-requires c κs = search needs
 
 pass-but-requires : tie.Need-pass-but-requires
 pass-but-requires c κs = search needs
 
 returns : tie.Need-returns
 unfolding variableAt
-returns c = (rw (c .before .compare-left .ensures, c .before .before .before .variable-word .ensures, c .before .before .variable-word2 .ensures) at (c .pass-but .ensures)) ∙ sym (moved-edge _ _ _ _ _)
+returns c = (rw (c .before .compare-exited .ensures, c .before .before .before .variable-word .ensures, c .before .before .variable-word2 .ensures) at (c .pass-but .ensures)) ∙ sym (moved-edge _ _ _ _ _)
 
-pub left-edge-spec : {M : Type 1} → statement M
-left-edge-spec =
+pub exited-edge-spec : {M : Type 1} → statement M
+exited-edge-spec =
     tie.close
     (tie.spec
     variable-word-requires
     variable-word-requires-2
-    compare-left-requires
+    compare-exited-requires
     pass-but-requires
     returns)

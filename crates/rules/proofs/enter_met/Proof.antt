@@ -1,10 +1,10 @@
 use Rattle.rows.specs.Rows.{variableAt}
-use Rattle.rules.proofs.Judging.{asked-one}
+use Rattle.rules.proofs.Judging.{met-one}
 use Rattle.rules.specs.Rules.{enterRule}
 use mathlib.Core.Path.{sym}
 use borrow.Author.Needs.{needs}
-use Rattle.rules.proofs.enter_asks.Statement.{statement}
-use Rattle.rules.proofs.enter_asks.Tie as tie
+use Rattle.rules.proofs.enter_met.Statement.{statement}
+use Rattle.rules.proofs.enter_met.Tie as tie
 
 variable-word-requires : tie.Need-variable-word-requires
 variable-word-requires c κs = search needs
@@ -20,10 +20,10 @@ depth-of-requires-2 c κs = search needs
 
 returns : tie.Need-returns
 unfolding enterRule variableAt
-returns c = rw (c .before .before .is-reference .ensures, c .before .before .before .variable-word .ensures, c .before .depth-of .ensures .0, c .depth-of2 .ensures .0) (sym (asked-one _ _))
+returns c = rw (c .before .before .is-reference .ensures, c .before .before .before .variable-word .ensures, c .before .depth-of .ensures .0, c .depth-of2 .ensures .0) (sym (met-one _ _))
 
-pub enter-asks-spec : {M : Type 1} → statement M
-enter-asks-spec =
+pub enter-met-spec : {M : Type 1} → statement M
+enter-met-spec =
     tie.close
     (tie.spec
     variable-word-requires

@@ -1,9 +1,9 @@
 use Rattle.rows.specs.Rows.{stackAt}
-use Rattle.rules.proofs.Rules.{pop-asked}
+use Rattle.rules.proofs.Rules.{pop-met}
 use mathlib.Core.Path.{sym}
 use borrow.Author.Needs.{needs}
-use Rattle.rules.proofs.pop_asks.Statement.{statement}
-use Rattle.rules.proofs.pop_asks.Tie as tie
+use Rattle.rules.proofs.pop_met.Statement.{statement}
+use Rattle.rules.proofs.pop_met.Tie as tie
 
 stack-word-requires : tie.Need-stack-word-requires
 stack-word-requires c κs = search needs
@@ -22,10 +22,10 @@ add-result c = search needs
 
 returns : tie.Need-returns
 unfolding stackAt
-returns c = rw (c .before .before .may-go .ensures, c .before .before .before .stack-word .ensures, c .before .depth-of .ensures .0, c .depth-of2 .ensures .0) (sym (pop-asked _ _))
+returns c = rw (c .before .before .may-go .ensures, c .before .before .before .stack-word .ensures, c .before .depth-of .ensures .0, c .depth-of2 .ensures .0) (sym (pop-met _ _))
 
-pub pop-asks-spec : {M : Type 1} → statement M
-pop-asks-spec =
+pub pop-met-spec : {M : Type 1} → statement M
+pop-met-spec =
     tie.close
     (tie.spec
     stack-word-requires

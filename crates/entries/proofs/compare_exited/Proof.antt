@@ -1,7 +1,7 @@
 use Rattle.entries.specs.Fits.{compare}
 use borrow.Author.Needs.{needs}
-use Rattle.entries.proofs.compare_left.Statement.{statement}
-use Rattle.entries.proofs.compare_left.Tie as tie
+use Rattle.entries.proofs.compare_exited.Statement.{statement}
+use Rattle.entries.proofs.compare_exited.Tie as tie
 
 takes-requires : tie.Need-takes-requires
 takes-requires c κs = search needs
@@ -31,8 +31,8 @@ returns : tie.Need-returns
 unfolding compare
 returns c = rw (← c .before .before .before .before .before .before .takes .ensures, ← c .before .before .before .before .before .dip-of .ensures .0, ← c .before .before .before .before .end-of .ensures .0, ← c .before .before .before .dip-of2 .ensures .0, ← c .before .before .end-of2 .ensures .0, ← c .before .less .ensures) (c .compared .ensures)
 
-pub compare-left-spec : {M : Type 1} → statement M
-compare-left-spec =
+pub compare-exited-spec : {M : Type 1} → statement M
+compare-exited-spec =
     tie.close
     (tie.spec
     takes-requires

@@ -1,9 +1,9 @@
 use Rattle.rows.specs.Rows.{stackAt}
-use Rattle.rules.proofs.Rules.{if-asked}
+use Rattle.rules.proofs.Rules.{if-met}
 use mathlib.Core.Path.{sym}
 use borrow.Author.Needs.{needs}
-use Rattle.rules.proofs.if_asks.Statement.{statement}
-use Rattle.rules.proofs.if_asks.Tie as tie
+use Rattle.rules.proofs.if_met.Statement.{statement}
+use Rattle.rules.proofs.if_met.Tie as tie
 
 depth-of-requires : tie.Need-depth-of-requires
 depth-of-requires c κs = search needs
@@ -28,10 +28,10 @@ add-result-2 c = search needs
 
 returns : tie.Need-returns
 unfolding stackAt
-returns c = rw (c .before .before .is-int .ensures, c .before .before .before .stack-word .ensures, c .before .before .before .before .depth-of .ensures .0, c .before .depth-of2 .ensures .0, c .depth-of3 .ensures .0) (sym (if-asked _ _ _))
+returns c = rw (c .before .before .is-int .ensures, c .before .before .before .stack-word .ensures, c .before .before .before .before .depth-of .ensures .0, c .before .depth-of2 .ensures .0, c .depth-of3 .ensures .0) (sym (if-met _ _ _))
 
-pub if-asks-spec : {M : Type 1} → statement M
-if-asks-spec =
+pub if-met-spec : {M : Type 1} → statement M
+if-met-spec =
     tie.close
     (tie.spec
     depth-of-requires

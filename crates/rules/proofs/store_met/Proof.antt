@@ -1,9 +1,9 @@
 use Rattle.rows.specs.Rows.{variableAt}
-use Rattle.rules.proofs.Rules.{store-asked}
+use Rattle.rules.proofs.Rules.{store-met}
 use mathlib.Core.Path.{sym}
 use borrow.Author.Needs.{needs}
-use Rattle.rules.proofs.store_asks.Statement.{statement}
-use Rattle.rules.proofs.store_asks.Tie as tie
+use Rattle.rules.proofs.store_met.Statement.{statement}
+use Rattle.rules.proofs.store_met.Tie as tie
 
 variable-word-requires : tie.Need-variable-word-requires
 variable-word-requires c κs = search needs
@@ -22,10 +22,10 @@ add-result c = search needs
 
 returns : tie.Need-returns
 unfolding variableAt
-returns c = rw (c .before .before .may-go .ensures, c .before .before .before .variable-word .ensures, c .before .depth-of .ensures .0, c .depth-of2 .ensures .0) (sym (store-asked _ _ _))
+returns c = rw (c .before .before .may-go .ensures, c .before .before .before .variable-word .ensures, c .before .depth-of .ensures .0, c .depth-of2 .ensures .0) (sym (store-met _ _ _))
 
-pub store-asks-spec : {M : Type 1} → statement M
-store-asks-spec =
+pub store-met-spec : {M : Type 1} → statement M
+store-met-spec =
     tie.close
     (tie.spec
     variable-word-requires

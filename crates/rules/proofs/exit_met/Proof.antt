@@ -1,10 +1,10 @@
 use Rattle.rows.specs.Rows.{variableAt}
-use Rattle.rules.proofs.Judging.{asked-one}
+use Rattle.rules.proofs.Judging.{met-one}
 use Rattle.rules.specs.Rules.{exitRule}
 use mathlib.Core.Path.{sym}
 use borrow.Author.Needs.{needs}
-use Rattle.rules.proofs.exit_asks.Statement.{statement}
-use Rattle.rules.proofs.exit_asks.Tie as tie
+use Rattle.rules.proofs.exit_met.Statement.{statement}
+use Rattle.rules.proofs.exit_met.Tie as tie
 
 variable-word-requires : tie.Need-variable-word-requires
 variable-word-requires c κs = search needs
@@ -20,10 +20,10 @@ depth-of-requires-2 c κs = search needs
 
 returns : tie.Need-returns
 unfolding exitRule variableAt
-returns c = rw (c .before .before .is-reference .ensures, c .before .before .before .variable-word .ensures, c .before .depth-of .ensures .0, c .depth-of2 .ensures .0) (sym (asked-one _ _))
+returns c = rw (c .before .before .is-reference .ensures, c .before .before .before .variable-word .ensures, c .before .depth-of .ensures .0, c .depth-of2 .ensures .0) (sym (met-one _ _))
 
-pub exit-asks-spec : {M : Type 1} → statement M
-exit-asks-spec =
+pub exit-met-spec : {M : Type 1} → statement M
+exit-met-spec =
     tie.close
     (tie.spec
     variable-word-requires
