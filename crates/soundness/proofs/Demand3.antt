@@ -1,4 +1,4 @@
--- DEMAND 3: for an accepted bundle, a fresh machine and any list of steps, one more step is `Sound`. By the invariant `Inv`, which every step keeps.
+-- Demand 3, by the invariant `Inv`, which every step keeps.
 use Prim.Native.Nat.{ℕ}
 use mathlib.Core.Path.{_≡_}
 use mathlib.Core.List.{List, [], _∷_}
@@ -16,8 +16,8 @@ use Rattle.verifier.proofs.FirstBroken.{agrees-back}
 use Rattle.state.specs.declared.State.{State}
 use Rattle.state.specs.State.{threadAt}
 use Rattle.machine.specs.Machine.{readable, freshOf, stepOf}
-use Rattle.machine.specs.Runs.{Step, after, run, reached}
-use Rattle.soundness.specs.Sound.{Sound}
+use Rattle.machine.specs.Runs.{Step, answer, after, run, reached}
+use Rattle.soundness.specs.Sound.{Safe, Sound, Demand3}
 use Rattle.soundness.proofs.Verified.{rowsOf, accepted}
 use Rattle.soundness.proofs.Invariant.{Inv, bounded, state-ok}
 use Rattle.soundness.proofs.Moves.{Good, passes, either}
@@ -57,17 +57,18 @@ module _ (b : List ℕ) (e : verdictOf b .number ≡ 0) where
   unfolding freshOf refuse programOf
   inv-reached xs = inv-run (freshOf b .state) (rw can-read (inv-fresh P R (accepted b e))) xs
 
-  pub sound : (s : State) → Inv P R s → (x : Step) → Sound b s x
-  sound s inv x =
+  pub safe : (s : State) → Inv P R s → Safe b s
+  safe s inv =
       record {
-        no-fault = step-good s inv (x .who) (x .fails) .quiet;
         leaves-held = λ t v l a q. exit-held P R (accepted b e) s inv t l a v q;
-        ends-free = step-good s inv (x .who) (x .fails) .ends;
         idle-free = λ t o l k a. inv .thread t l .asleep a .free o k;
         one-holder = inv .whole .one-holder;
         bounded = λ t o l k. bounded P R (accepted b e) s inv t o l k;
       }
 
+  pub sound : (s : State) → Inv P R s → (x : Step) → Sound s (x .who) (answer b s x) (after b s x)
+  sound s inv x = let good = step-good s inv (x .who) (x .fails) in record { no-fault = good .quiet; ends-free = good .ends }
+
 -- THEOREM, demand 3
-pub demand-3 : (b : List ℕ) → verdictOf b .number ≡ 0 → (xs : List Step) (x : Step) → Sound b (reached b xs) x
-demand-3 b e xs x = sound b e (reached b xs) (inv-reached b e xs) x
+pub demand-3 : Demand3
+demand-3 b e xs = let inv = inv-reached b e xs in (safe b e (reached b xs) inv, λ x. sound b e (reached b xs) inv x)

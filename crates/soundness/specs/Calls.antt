@@ -1,18 +1,14 @@
 -- Demand 3 as a user of the library reads it: over the results of calls, each of which is what its contract says.
 use mathlib.Core.List.{List, [], _∷_}
 use mathlib.Core.Path.{_≡_}
-use mathlib.Core.Logic.{_⊎_, _≢_}
-use mathlib.Core.Bool.{Bool, true, false}
-use Prim.Native.Nat.{ℕ, _<_, _≤_}
-use Rattle.instructions.specs.declared.Instruction.the-variants.{Exit}
-use Rattle.instructions.specs.declared.Var.{Var}
-use Rattle.values.specs.Values.{objectOf}
-use Rattle.threads.specs.Threads.{varOf}
+use mathlib.Core.Bool.{Bool}
+use Prim.Native.Nat.{ℕ}
+use Rattle.structure.specs.declared.Verdict.{Verdict}
+use Rattle.verifier.specs.Verdict.{verdictOf}
 use Rattle.state.specs.declared.State.{State}
-use Rattle.state.specs.State.{threadAt}
 use Rattle.machine.specs.declared.Stepped.{Stepped}
-use Rattle.machine.specs.Machine.{stepOf}
-use Rattle.soundness.specs.Sound.{holds, next}
+use Rattle.machine.specs.Machine.{freshOf, stepOf}
+use Rattle.soundness.specs.Sound.{Safe, Sound}
 
 -- a call of step: the thread, whether an allocation fails, and what came back
 pub record Call : Type 0 where
@@ -34,18 +30,15 @@ unfoldable pub given : State → List Call → State
 given s [] = s
 given s (c ∷ cs) = given (c .result .state) cs
 
--- one clause of the demand a field, of a call that was passed the state s
-pub record Served (b : List ℕ) (s : State) (c : Call) : Type 0 where
-  -- no step is a fault, nor 17 or 18
-  pub no-fault : c .result .answer ≤ 5
-  -- a thread that ends, by return or uncaught exception, held nothing and holds nothing then
-  pub ends-free : (c .result .answer ≡ 1) ⊎ (c .result .answer ≡ 2) → (o : ℕ) → o < 32 → (holds s (c .who) o ≡ 0) × (holds (c .result .state) (c .who) o ≡ 0)
-  -- in the state given back no thread is about to leave a lock that it does not hold
-  pub leaves-held : (t : ℕ) (v : Var) → t < 8 → threadAt (c .result .state) t .live ≡ true → next b (c .result .state) t ≡ Exit v
-      → 0 < holds (c .result .state) t (objectOf (varOf (threadAt (c .result .state) t) (v .0)))
-  -- .. a thread that isn't live holds nothing
-  pub idle-free : (t o : ℕ) → t < 8 → o < 32 → threadAt (c .result .state) t .live ≡ false → holds (c .result .state) t o ≡ 0
-  -- .. no object is held by two threads
-  pub one-holder : (t u o : ℕ) → t < 8 → u < 8 → o < 32 → t ≢ u → 0 < holds (c .result .state) t o → holds (c .result .state) u o ≡ 0
-  -- .. and no count passes 2,016
-  pub bounded : (t o : ℕ) → t < 8 → o < 32 → holds (c .result .state) t o ≤ 2016
+-- a call that was passed the state s is sound, and the state that it gave back is safe
+abbrev pub Served : List ℕ → State → Call → Type 0
+Served b s c = Sound s (c .who) (c .result .answer) (c .result .state) × Safe b (c .result .state)
+
+-- where verify(b) gave the number 0, fresh(b) gave f, and calls of step followed, each passed the state that the one before gave back, one more call is served as demand 3 says
+abbrev pub CallsServed : Type 0
+CallsServed =
+    (b : List ℕ) (v : Verdict) → v ≡ verdictOf b → v .number ≡ 0
+    → (f : Stepped) → f ≡ freshOf b
+    → (cs : List Call) → Called b (f .state) cs
+    → (c : Call) → Kept b (given (f .state) cs) c
+    → Served b (given (f .state) cs) c
