@@ -1,19 +1,17 @@
 //! Cases A to L of document 01.
 
+mod common;
+
+use common::{judge, run, run_through};
 use hveitmar_reference::builder::{case_a, lay_out, Layout, Method, Row};
 use hveitmar_reference::bundle::{find_record, Addr, Bundle, Instr, Var, Verdict};
 use hveitmar_reference::entries::Entry;
 use hveitmar_reference::machine::{fresh, step, State, Value};
 use hveitmar_reference::rules;
 use hveitmar_reference::slips::Slips;
-use hveitmar_reference::verify::verify;
 
 const HELD: Entry = Entry::reference(0, 1, -1);
 const FREE: Entry = Entry::fresh(0);
-
-fn judge(bytes: &[u8]) -> Verdict {
-    verify(bytes, &Slips::NONE)
-}
 
 /// Case A with `if target`, and row 9's variable as given.
 fn case(target: u16, last: Entry) -> Vec<u8> {
@@ -37,10 +35,6 @@ fn rule_holds(instr: Instr, row: Row, next: Row) -> bool {
     let bytes = lay_out(&[method]);
     let bundle = Bundle::open_with_code(&bytes).expect("the table is kept");
     rules::check(&bundle, bundle.class(0), Addr(1), &Slips::NONE).is_ok()
-}
-
-fn run(bytes: &[u8], state: &State, fails: bool) -> (u8, State) {
-    step(bytes, state, 0, fails, &Slips::NONE)
 }
 
 #[test]
@@ -215,13 +209,7 @@ fn l_empty_input_draws_1() {
 #[test]
 fn a_runs_down_both_arms() {
     let bytes = case(8, FREE);
-    let (_, mut state) = fresh(&bytes);
-    let mut answers = vec![];
-    for _ in 0..8 {
-        let (answer, next) = run(&bytes, &state, false);
-        answers.push(answer);
-        state = next;
-    }
+    let (answers, state) = run_through(&bytes, 8);
     assert_eq!(answers, [0, 0, 0, 0, 0, 0, 1, 5]);
     assert_eq!((state.objects, state.counts), (2, [0; 256]));
     assert_eq!(state.threads, State::EMPTY.threads);

@@ -2,12 +2,14 @@
 //!
 //! Class 1 is the exception class here, unless a test says otherwise.
 
+mod common;
+
+use common::{judge, run, run_through};
 use hveitmar_reference::builder::{Draft, Method, Row};
 use hveitmar_reference::bundle::{find_record, Addr, Instr, Var, Verdict};
 use hveitmar_reference::entries::Entry;
 use hveitmar_reference::machine::{fresh, step, State, Value};
 use hveitmar_reference::slips::Slips;
-use hveitmar_reference::verify::verify;
 
 const INTEGER: Entry = Entry::Int;
 const TOP: Entry = Entry::Top;
@@ -48,14 +50,6 @@ fn bundle(stack_limit: usize, code: &[Instr], rows: &[Row]) -> Vec<u8> {
         exception: EXCEPTION,
     };
     draft.lay_out()
-}
-
-fn judge(bytes: &[u8]) -> Verdict {
-    verify(bytes, &Slips::NONE)
-}
-
-fn run(bytes: &[u8], state: &State, fails: bool) -> (u8, State) {
-    step(bytes, state, 0, fails, &Slips::NONE)
 }
 
 /// Why the rule at address 2 fails, if it does: address 1 ends the thread,
@@ -490,13 +484,7 @@ fn a_lock_may_be_thrown() {
     };
     let bytes = bundle(1, &code, &rows(held));
     assert_eq!(judge(&bytes), Verdict::new(0, 2, 0));
-    let (_, mut state) = fresh(&bytes);
-    let mut answers = vec![];
-    for _ in 0..8 {
-        let (answer, next) = run(&bytes, &state, false);
-        answers.push(answer);
-        state = next;
-    }
+    let (answers, state) = run_through(&bytes, 8);
     assert_eq!(answers, [0, 0, 0, 0, 0, 0, 0, 1]);
     assert_eq!(state.counts, [0; 256]);
     // A handler that claims more than is thrown is refused at the throw.
