@@ -62,7 +62,7 @@ endOf (Ref c d e) = e
 endOf Blank = noEnd
 endOf Malformed = noEnd
 
--- the kind that the first byte gives; what is malformed is of no kind, which is the number behind them
+-- the kind that the first byte gives; what is malformed is of none, told by the number behind them
 abbrev pub kindOf : Entry → ℕ
 kindOf Int = 1
 kindOf Top = 2
