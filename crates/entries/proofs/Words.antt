@@ -8,8 +8,9 @@ use lib.Dec.{eqb}
 use lib.Arith.{digits-div, digits-mod, mod-mul}
 use borrow.Author.Tests.{eqb-true, eq-eqb, ne-eqb}
 use Rattle.ground.proofs.Bools.{and-fst, and-snd, never}
-use Rattle.entries.specs.Entries.{Ref, zeros, pairOk, entryOf, entryFrom, dipOf, endOf, classOf, isInt, isTop, isBlank, isReference}
+use Rattle.entries.specs.Entries.{Ref, zeros, pairOk, entryOf, dipOf, endOf, classOf, isInt, isTop, isBlank, isReference}
 use Rattle.entries.specs.Fits.{compare, want}
+use Rattle.entries.specs.Words.{entryFrom}
 use Rattle.entries.proofs.Types.{blank-bytes, int-bytes, top-bytes, reference-bytes, reference-is, fits-itself}
 
 module _ (n a b c d : ℕ) (la : a < 256) (lb : b < 256) (lc : c < 256) (ld : d < 256) where

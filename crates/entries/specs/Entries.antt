@@ -1,6 +1,6 @@
 -- Document 01, types and pairs: what four bytes are, in a bundle of n classes. Ends are kept as stored, with 64 added, so that they are natural numbers.
 use mathlib.Core.Bool.{Bool, cond, _&&_}
-use Prim.Native.Nat.{ℕ, _/_, _%_}
+use Prim.Native.Nat.{ℕ}
 use lib.Dec.{leb, ltb, eqb}
 use Rattle.ground.specs.Chain.{refuse}
 
@@ -42,10 +42,6 @@ entryOf n kind c d e =
     (cond (eqb kind 2) (refuse (zeros c d e) Malformed Top)
     (cond (eqb kind 3) (refuse (pairOk n c d e) Malformed (Ref c d e))
     Malformed)))
-
--- the entry whose four bytes, the first the highest, make the number w
-unfoldable pub entryFrom : ℕ → ℕ → Entry
-entryFrom n w = entryOf n (w / 16777216) (w / 65536 % 256) (w / 256 % 256) (w % 256)
 
 -- Int and Top weigh d = 0, e = 0
 abbrev pub dipOf : Entry → ℕ

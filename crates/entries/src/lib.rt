@@ -4,8 +4,9 @@ ghost use mathlib.Core.Path.{_≡_};
 ghost use Prim.Native.Nat.{_+_, _-_, _≤_, _/_, _%_};
 ghost use lib.Dec.{leb};
 ghost use Rattle.ground.specs.Chain.{refuse};
-ghost use Rattle.entries.specs.Entries.{Int, Ref, pairOk, entryFrom, dipOf, endOf, kindOf, classOf, isInt, isTop, isReference, isBlank, isType, isOf, noEnd, argumentEntry, matches};
+ghost use Rattle.entries.specs.Entries.{Int, Ref, pairOk, dipOf, endOf, kindOf, classOf, isInt, isTop, isReference, isBlank, isType, isOf, noEnd, argumentEntry, matches};
 ghost use Rattle.entries.specs.Fits.{mayGo, takes, compare, want, wantEntered, wantExited, wantBoth};
+ghost use Rattle.entries.specs.Words.{entryFrom};
 
 // The greatest dip, the least and the greatest end.
 const MAX_DIP: u8 = 63;

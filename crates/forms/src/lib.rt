@@ -7,13 +7,13 @@ use bundle::Class;
 use instructions::Addr;
 
 fn var_formed(n: u8, k: Class, r: &[u8], p: u32, i: u8) -> bool
-    ensures { λ o. ⌜ o ≡ varFormed (rowFrom n (now (r .entry)) (k .vars) p) i ⌝ }
+    ensures { λ o. ⌜ o ≡ varFormed (rowFrom n k (now (r .entry)) p) i ⌝ }
 {
-    entries::is_type(n, rows::variable_word(r, p, k.vars, k.limit, i))
+    entries::is_type(n, rows::variable_word(n, k, r, p, i))
 }
 
 fn vars_formed(n: u8, k: Class, r: &[u8], p: u32) -> bool
-    ensures { λ o. ⌜ o ≡ varsFormed (k .vars) (rowFrom n (now (r .entry)) (k .vars) p) ⌝ }
+    ensures { λ o. ⌜ o ≡ varsFormed (k .vars) (rowFrom n k (now (r .entry)) p) ⌝ }
 {
     let vars = k.vars;
     for i in 0..vars {
@@ -27,9 +27,9 @@ fn vars_formed(n: u8, k: Class, r: &[u8], p: u32) -> bool
 // d is the row's depth.
 fn entry_formed(n: u8, k: Class, r: &[u8], p: u32, d: u8, j: u8) -> bool
     requires { ⌜ d ≡ depthAt (now r) p (k .vars) ⌝ }
-    ensures { λ o. ⌜ o ≡ entryFormed (rowFrom n (now (r .entry)) (k .vars) p) j ⌝ }
+    ensures { λ o. ⌜ o ≡ entryFormed (rowFrom n k (now (r .entry)) p) j ⌝ }
 {
-    let w = rows::stack_word(r, p, k.vars, k.limit, j);
+    let w = rows::stack_word(n, k, r, p, j);
     if j < d {
         return entries::is_type(n, w);
     }
@@ -37,9 +37,9 @@ fn entry_formed(n: u8, k: Class, r: &[u8], p: u32, d: u8, j: u8) -> bool
 }
 
 fn stack_formed(n: u8, k: Class, r: &[u8], p: u32) -> bool
-    ensures { λ o. ⌜ o ≡ stackFormed (k .limit) (rowFrom n (now (r .entry)) (k .vars) p) ⌝ }
+    ensures { λ o. ⌜ o ≡ stackFormed (k .limit) (rowFrom n k (now (r .entry)) p) ⌝ }
 {
-    let d = rows::depth_at(r, p, k.vars, k.limit);
+    let d = rows::depth_at(k, r, p);
     let limit = k.limit;
     for j in 0..limit {
         if !entry_formed(n, k, r, p, d, j) {
@@ -50,9 +50,9 @@ fn stack_formed(n: u8, k: Class, r: &[u8], p: u32) -> bool
 }
 
 fn row_from_formed(n: u8, k: Class, r: &[u8], p: u32) -> bool
-    ensures { λ o. ⌜ o ≡ rowFormed (k .vars) (k .limit) (rowFrom n (now (r .entry)) (k .vars) p) ⌝ }
+    ensures { λ o. ⌜ o ≡ rowFormed (k .vars) (k .limit) (rowFrom n k (now (r .entry)) p) ⌝ }
 {
-    if k.limit < rows::depth_at(r, p, k.vars, k.limit) {
+    if k.limit < rows::depth_at(k, r, p) {
         return false;
     }
     if !vars_formed(n, k, r, p) {
@@ -69,9 +69,9 @@ pub fn row_formed(n: u8, k: Class, r: &[u8], l: Addr) -> bool
 }
 
 fn first_var(n: u8, k: Class, r: &[u8], p: u32, i: u8) -> bool
-    ensures { λ o. ⌜ o ≡ firstVar (k .args) (at (now (r .entry))) (rowFrom n (now (r .entry)) (k .vars) p) i ⌝ }
+    ensures { λ o. ⌜ o ≡ firstVar (k .args) (at (now (r .entry))) (rowFrom n k (now (r .entry)) p) i ⌝ }
 {
-    let w = rows::variable_word(r, p, k.vars, k.limit, i);
+    let w = rows::variable_word(n, k, r, p, i);
     if i < k.args {
         return entries::compare_argument(n, ground::byte(r, i as usize), w) == 0;
     }
@@ -79,7 +79,7 @@ fn first_var(n: u8, k: Class, r: &[u8], p: u32, i: u8) -> bool
 }
 
 fn first_vars(n: u8, k: Class, r: &[u8], p: u32) -> bool
-    ensures { λ o. ⌜ o ≡ firstVars (k .vars) (k .args) (at (now (r .entry))) (rowFrom n (now (r .entry)) (k .vars) p) ⌝ }
+    ensures { λ o. ⌜ o ≡ firstVars (k .vars) (k .args) (at (now (r .entry))) (rowFrom n k (now (r .entry)) p) ⌝ }
 {
     let vars = k.vars;
     for i in 0..vars {
@@ -95,7 +95,7 @@ pub fn first_row(n: u8, k: Class, r: &[u8]) -> bool
     ensures { λ o. ⌜ o ≡ firstRow (k .vars) (k .args) (at (now (r .entry))) (rowAt n k (now (r .entry)) 1) ⌝ }
 {
     let p = rows::row_start(k, Addr(1));
-    if rows::depth_at(r, p, k.vars, k.limit) != 0 {
+    if rows::depth_at(k, r, p) != 0 {
         return false;
     }
     first_vars(n, k, r, p)

@@ -1,7 +1,9 @@
 // A row as it stands in the bundle, read entry by entry from a record and numbers. Every read is total; a place is a u32, so that no sum wraps.
 ghost use mathlib.Core.Path.{_≡_};
 ghost use Prim.Native.Nat.{_+_};
-ghost use Rattle.rows.specs.Rows.{startBehind, rowStart, variableWord, stackWord, depthAt};
+ghost use Rattle.entries.specs.Words.{entryFrom};
+ghost use Rattle.rows.specs.Rows.{startBehind, rowStart, variableAt, depthAt, stackAt};
+ghost use Rattle.rows.specs.Words.{variableWord, stackWord, entryWord};
 use bundle::Class;
 use instructions::Addr;
 
@@ -84,22 +86,44 @@ fn stack<'a>(x: Row<'a>, j: u8) -> u32
     read_stack(x.part, x.start, x.vars, j)
 }
 
-// What follows has plain parameters, so that callers need no proof by hand: first the four bytes of the entry of variable i, in the row that begins at s.
-pub fn variable_word(r: &[u8], s: u32, vars: u8, limit: u8, i: u8) -> u32
+// What follows has plain parameters, so that callers need no proof by hand.
+fn variable_in(r: &[u8], s: u32, vars: u8, limit: u8, i: u8) -> u32
     ensures { λ w. ⌜ w ≡ variableWord (now (r .entry)) s i ⌝ }
 {
     variable(new(r, s, vars, limit), i)
 }
 
-pub fn depth_at(r: &[u8], s: u32, vars: u8, limit: u8) -> u8
+fn depth_in(r: &[u8], s: u32, vars: u8, limit: u8) -> u8
     ensures { λ d. ⌜ d ≡ depthAt (now (r .entry)) s vars ⌝ }
 {
     depth(new(r, s, vars, limit))
 }
 
-// The stack entry j, the top being entry 0.
-pub fn stack_word(r: &[u8], s: u32, vars: u8, limit: u8, j: u8) -> u32
+fn stack_in(r: &[u8], s: u32, vars: u8, limit: u8, j: u8) -> u32
     ensures { λ w. ⌜ w ≡ stackWord (now (r .entry)) s vars j ⌝ }
 {
     stack(new(r, s, vars, limit), j)
+}
+
+// The four bytes of the entry of variable i, in the row that begins at s, as one number; what they are in a bundle of n classes.
+pub fn variable_word(n: u8, k: Class, r: &[u8], s: u32, i: u8) -> u32
+    ensures { λ w. ⌜ (w ≡ variableWord (now (r .entry)) s i) × (entryFrom n w ≡ variableAt n (now (r .entry)) s i) ⌝ }
+{
+    variable_in(r, s, k.vars, k.limit, i)
+}
+
+pub fn depth_at(k: Class, r: &[u8], s: u32) -> u8
+    ensures { λ d. ⌜ d ≡ depthAt (now (r .entry)) s (k .vars) ⌝ }
+{
+    depth_in(r, s, k.vars, k.limit)
+}
+
+// .. of the stack entry j, the top being entry 0.
+pub fn stack_word(n: u8, k: Class, r: &[u8], s: u32, j: u8) -> u32
+    ensures { λ w. ⌜ (w ≡ entryWord k (now (r .entry)) s j) × (entryFrom n w ≡ stackAt n k (now (r .entry)) s j) ⌝ }
+{
+    if k.limit <= j {
+        return 0;
+    }
+    stack_in(r, s, k.vars, k.limit, j)
 }

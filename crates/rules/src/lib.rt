@@ -43,16 +43,16 @@ fn then_short(first: u8, second: u8) -> u8
 }
 
 fn inc_met(n: u8, k: Class, r: &[u8], p: u32, q: u32) -> bool
-    ensures { λ o. ⌜ o ≡ met (incRule (rowFrom n (now (r .entry)) (k .vars) p) (rowFrom n (now (r .entry)) (k .vars) q)) ⌝ }
+    ensures { λ o. ⌜ o ≡ met (incRule (rowFrom n k (now (r .entry)) p) (rowFrom n k (now (r .entry)) q)) ⌝ }
 {
     let d = matching::depth_of(k, r, p);
     (1 <= d)
-        & entries::is_int(n, rows::stack_word(r, p, k.vars, k.limit, 0))
+        & entries::is_int(n, rows::stack_word(n, k, r, p, 0))
         & (d == matching::depth_of(k, r, q))
 }
 
 fn inc_rule(n: u8, k: Class, r: &[u8], p: u32, q: u32) -> Ruling
-    ensures { λ o. ⌜ o ≡ ruling (k .vars) (incRule (rowFrom n (now (r .entry)) (k .vars) p) (rowFrom n (now (r .entry)) (k .vars) q)) ⌝ }
+    ensures { λ o. ⌜ o ≡ ruling (k .vars) (incRule (rowFrom n k (now (r .entry)) p) (rowFrom n k (now (r .entry)) q)) ⌝ }
 {
     if !inc_met(n, k, r, p, q) {
         return Ruling {
@@ -67,14 +67,14 @@ fn inc_rule(n: u8, k: Class, r: &[u8], p: u32, q: u32) -> Ruling
 }
 
 fn pop_met(n: u8, k: Class, r: &[u8], p: u32, q: u32) -> bool
-    ensures { λ o. ⌜ o ≡ met (popRule (rowFrom n (now (r .entry)) (k .vars) p) (rowFrom n (now (r .entry)) (k .vars) q)) ⌝ }
+    ensures { λ o. ⌜ o ≡ met (popRule (rowFrom n k (now (r .entry)) p) (rowFrom n k (now (r .entry)) q)) ⌝ }
 {
-    entries::may_go(n, rows::stack_word(r, p, k.vars, k.limit, 0))
+    entries::may_go(n, rows::stack_word(n, k, r, p, 0))
         & (matching::depth_of(k, r, p) == matching::depth_of(k, r, q) + 1)
 }
 
 fn pop_rule(n: u8, k: Class, r: &[u8], p: u32, q: u32) -> Ruling
-    ensures { λ o. ⌜ o ≡ ruling (k .vars) (popRule (rowFrom n (now (r .entry)) (k .vars) p) (rowFrom n (now (r .entry)) (k .vars) q)) ⌝ }
+    ensures { λ o. ⌜ o ≡ ruling (k .vars) (popRule (rowFrom n k (now (r .entry)) p) (rowFrom n k (now (r .entry)) q)) ⌝ }
 {
     if !pop_met(n, k, r, p, q) {
         return Ruling {
@@ -89,13 +89,13 @@ fn pop_rule(n: u8, k: Class, r: &[u8], p: u32, q: u32) -> Ruling
 }
 
 fn push0_met(n: u8, k: Class, r: &[u8], p: u32, q: u32) -> bool
-    ensures { λ o. ⌜ o ≡ met (push0Rule (rowFrom n (now (r .entry)) (k .vars) p) (rowFrom n (now (r .entry)) (k .vars) q)) ⌝ }
+    ensures { λ o. ⌜ o ≡ met (push0Rule (rowFrom n k (now (r .entry)) p) (rowFrom n k (now (r .entry)) q)) ⌝ }
 {
     matching::depth_of(k, r, p) + 1 == matching::depth_of(k, r, q)
 }
 
 fn push0_rule(n: u8, k: Class, r: &[u8], p: u32, q: u32) -> Ruling
-    ensures { λ o. ⌜ o ≡ ruling (k .vars) (push0Rule (rowFrom n (now (r .entry)) (k .vars) p) (rowFrom n (now (r .entry)) (k .vars) q)) ⌝ }
+    ensures { λ o. ⌜ o ≡ ruling (k .vars) (push0Rule (rowFrom n k (now (r .entry)) p) (rowFrom n k (now (r .entry)) q)) ⌝ }
 {
     if !push0_met(n, k, r, p, q) {
         return Ruling {
@@ -110,13 +110,13 @@ fn push0_rule(n: u8, k: Class, r: &[u8], p: u32, q: u32) -> Ruling
 }
 
 fn load_met(n: u8, k: Class, r: &[u8], v: u8, p: u32, q: u32) -> bool
-    ensures { λ o. ⌜ o ≡ met (loadRule v (rowFrom n (now (r .entry)) (k .vars) p) (rowFrom n (now (r .entry)) (k .vars) q)) ⌝ }
+    ensures { λ o. ⌜ o ≡ met (loadRule v (rowFrom n k (now (r .entry)) p) (rowFrom n k (now (r .entry)) q)) ⌝ }
 {
     matching::depth_of(k, r, p) + 1 == matching::depth_of(k, r, q)
 }
 
 fn load_rule(n: u8, k: Class, r: &[u8], v: u8, p: u32, q: u32) -> Ruling
-    ensures { λ o. ⌜ o ≡ ruling (k .vars) (loadRule v (rowFrom n (now (r .entry)) (k .vars) p) (rowFrom n (now (r .entry)) (k .vars) q)) ⌝ }
+    ensures { λ o. ⌜ o ≡ ruling (k .vars) (loadRule v (rowFrom n k (now (r .entry)) p) (rowFrom n k (now (r .entry)) q)) ⌝ }
 {
     if !load_met(n, k, r, v, p, q) {
         return Ruling {
@@ -131,14 +131,14 @@ fn load_rule(n: u8, k: Class, r: &[u8], v: u8, p: u32, q: u32) -> Ruling
 }
 
 fn store_met(n: u8, k: Class, r: &[u8], v: u8, p: u32, q: u32) -> bool
-    ensures { λ o. ⌜ o ≡ met (storeRule v (rowFrom n (now (r .entry)) (k .vars) p) (rowFrom n (now (r .entry)) (k .vars) q)) ⌝ }
+    ensures { λ o. ⌜ o ≡ met (storeRule v (rowFrom n k (now (r .entry)) p) (rowFrom n k (now (r .entry)) q)) ⌝ }
 {
-    entries::may_go(n, rows::variable_word(r, p, k.vars, k.limit, v))
+    entries::may_go(n, rows::variable_word(n, k, r, p, v))
         & (matching::depth_of(k, r, p) == matching::depth_of(k, r, q) + 1)
 }
 
 fn store_rule(n: u8, k: Class, r: &[u8], v: u8, p: u32, q: u32) -> Ruling
-    ensures { λ o. ⌜ o ≡ ruling (k .vars) (storeRule v (rowFrom n (now (r .entry)) (k .vars) p) (rowFrom n (now (r .entry)) (k .vars) q)) ⌝ }
+    ensures { λ o. ⌜ o ≡ ruling (k .vars) (storeRule v (rowFrom n k (now (r .entry)) p) (rowFrom n k (now (r .entry)) q)) ⌝ }
 {
     if !store_met(n, k, r, v, p, q) {
         return Ruling {
@@ -153,15 +153,15 @@ fn store_rule(n: u8, k: Class, r: &[u8], v: u8, p: u32, q: u32) -> Ruling
 }
 
 fn if_met(n: u8, k: Class, r: &[u8], p: u32, q: u32, h: u32) -> bool
-    ensures { λ o. ⌜ o ≡ met (ifRule (rowFrom n (now (r .entry)) (k .vars) p) (rowFrom n (now (r .entry)) (k .vars) q) (rowFrom n (now (r .entry)) (k .vars) h)) ⌝ }
+    ensures { λ o. ⌜ o ≡ met (ifRule (rowFrom n k (now (r .entry)) p) (rowFrom n k (now (r .entry)) q) (rowFrom n k (now (r .entry)) h)) ⌝ }
 {
     let d = matching::depth_of(k, r, p);
-    entries::is_int(n, rows::stack_word(r, p, k.vars, k.limit, 0))
+    entries::is_int(n, rows::stack_word(n, k, r, p, 0))
         & ((d == matching::depth_of(k, r, q) + 1) & (d == matching::depth_of(k, r, h) + 1))
 }
 
 fn if_rule(n: u8, k: Class, r: &[u8], p: u32, q: u32, h: u32) -> Ruling
-    ensures { λ o. ⌜ o ≡ ruling (k .vars) (ifRule (rowFrom n (now (r .entry)) (k .vars) p) (rowFrom n (now (r .entry)) (k .vars) q) (rowFrom n (now (r .entry)) (k .vars) h)) ⌝ }
+    ensures { λ o. ⌜ o ≡ ruling (k .vars) (ifRule (rowFrom n k (now (r .entry)) p) (rowFrom n k (now (r .entry)) q) (rowFrom n k (now (r .entry)) h)) ⌝ }
 {
     if !if_met(n, k, r, p, q, h) {
         return Ruling {
@@ -179,14 +179,14 @@ fn if_rule(n: u8, k: Class, r: &[u8], p: u32, q: u32, h: u32) -> Ruling
 }
 
 fn enter_met(n: u8, k: Class, r: &[u8], v: u8, p: u32, q: u32) -> bool
-    ensures { λ o. ⌜ o ≡ met (enterRule v (rowFrom n (now (r .entry)) (k .vars) p) (rowFrom n (now (r .entry)) (k .vars) q)) ⌝ }
+    ensures { λ o. ⌜ o ≡ met (enterRule v (rowFrom n k (now (r .entry)) p) (rowFrom n k (now (r .entry)) q)) ⌝ }
 {
-    entries::is_reference(n, rows::variable_word(r, p, k.vars, k.limit, v))
+    entries::is_reference(n, rows::variable_word(n, k, r, p, v))
         & (matching::depth_of(k, r, p) == matching::depth_of(k, r, q))
 }
 
 fn enter_rule(n: u8, k: Class, r: &[u8], v: u8, p: u32, q: u32) -> Ruling
-    ensures { λ o. ⌜ o ≡ ruling (k .vars) (enterRule v (rowFrom n (now (r .entry)) (k .vars) p) (rowFrom n (now (r .entry)) (k .vars) q)) ⌝ }
+    ensures { λ o. ⌜ o ≡ ruling (k .vars) (enterRule v (rowFrom n k (now (r .entry)) p) (rowFrom n k (now (r .entry)) q)) ⌝ }
 {
     if !enter_met(n, k, r, v, p, q) {
         return Ruling {
@@ -201,14 +201,14 @@ fn enter_rule(n: u8, k: Class, r: &[u8], v: u8, p: u32, q: u32) -> Ruling
 }
 
 fn exit_met(n: u8, k: Class, r: &[u8], v: u8, p: u32, q: u32) -> bool
-    ensures { λ o. ⌜ o ≡ met (exitRule v (rowFrom n (now (r .entry)) (k .vars) p) (rowFrom n (now (r .entry)) (k .vars) q)) ⌝ }
+    ensures { λ o. ⌜ o ≡ met (exitRule v (rowFrom n k (now (r .entry)) p) (rowFrom n k (now (r .entry)) q)) ⌝ }
 {
-    entries::is_reference(n, rows::variable_word(r, p, k.vars, k.limit, v))
+    entries::is_reference(n, rows::variable_word(n, k, r, p, v))
         & (matching::depth_of(k, r, p) == matching::depth_of(k, r, q))
 }
 
 fn exit_rule(n: u8, k: Class, r: &[u8], v: u8, p: u32, q: u32) -> Ruling
-    ensures { λ o. ⌜ o ≡ ruling (k .vars) (exitRule v (rowFrom n (now (r .entry)) (k .vars) p) (rowFrom n (now (r .entry)) (k .vars) q)) ⌝ }
+    ensures { λ o. ⌜ o ≡ ruling (k .vars) (exitRule v (rowFrom n k (now (r .entry)) p) (rowFrom n k (now (r .entry)) q)) ⌝ }
 {
     if !exit_met(n, k, r, v, p, q) {
         return Ruling {
@@ -224,7 +224,7 @@ fn exit_rule(n: u8, k: Class, r: &[u8], v: u8, p: u32, q: u32) -> Ruling
 
 // What a throw asks besides the stack; `goes` is whether what is thrown may go.
 fn throw_met(n: u8, k: Class, r: &[u8], handler: u16, goes: bool, p: u32, h: u32) -> bool
-    ensures { λ o. ⌜ o ≡ cond (eqb handler 0) (goes && varsGo (k .vars) (rowFrom n (now (r .entry)) (k .vars) p)) (eqb 1 (rowFrom n (now (r .entry)) (k .vars) h .depth)) ⌝ }
+    ensures { λ o. ⌜ o ≡ cond (eqb handler 0) (goes && varsGo (k .vars) (rowFrom n k (now (r .entry)) p)) (eqb 1 (rowFrom n k (now (r .entry)) h .depth)) ⌝ }
 {
     if handler == 0 {
         return goes & matching::vars_go(n, k, r, p);
@@ -234,7 +234,7 @@ fn throw_met(n: u8, k: Class, r: &[u8], handler: u16, goes: bool, p: u32, h: u32
 
 // The comparison of what is thrown with the handler's only entry gave t.
 fn thrown_short(n: u8, k: Class, r: &[u8], handler: u16, t: u8, p: u32, h: u32) -> u8
-    ensures { λ o. ⌜ o ≡ cond (eqb handler 0) 0 (thenShort (edgeShort (k .vars) (edge (emptied (rowFrom n (now (r .entry)) (k .vars) p)) (wants (rowFrom n (now (r .entry)) (k .vars) h)))) t) ⌝ }
+    ensures { λ o. ⌜ o ≡ cond (eqb handler 0) 0 (thenShort (edgeShort (k .vars) (edge (emptied (rowFrom n k (now (r .entry)) p)) (wants (rowFrom n k (now (r .entry)) h)))) t) ⌝ }
 {
     if handler == 0 {
         return 0;
@@ -244,10 +244,10 @@ fn thrown_short(n: u8, k: Class, r: &[u8], handler: u16, t: u8, p: u32, h: u32) 
 
 // x is the exception class.
 fn throw_rule(n: u8, k: Class, r: &[u8], x: u8, handler: u16, p: u32, h: u32) -> Ruling
-    ensures { λ o. ⌜ o ≡ ruling (k .vars) (throwRule (k .vars) x handler (rowFrom n (now (r .entry)) (k .vars) p) (rowFrom n (now (r .entry)) (k .vars) h)) ⌝ }
+    ensures { λ o. ⌜ o ≡ ruling (k .vars) (throwRule (k .vars) x handler (rowFrom n k (now (r .entry)) p) (rowFrom n k (now (r .entry)) h)) ⌝ }
 {
-    let top = rows::stack_word(r, p, k.vars, k.limit, 0);
-    let t = entries::compare(n, top, rows::stack_word(r, h, k.vars, k.limit, 0));
+    let top = rows::stack_word(n, k, r, p, 0);
+    let t = entries::compare(n, top, rows::stack_word(n, k, r, h, 0));
     judged(
         (1 <= matching::depth_of(k, r, p))
             & entries::is_of(n, x, top)
@@ -259,9 +259,9 @@ fn throw_rule(n: u8, k: Class, r: &[u8], x: u8, handler: u16, p: u32, h: u32) ->
 
 // A failed new throws the exception class with (0,0), which may go.
 fn new_rule(n: u8, k: Class, r: &[u8], x: u8, c: u8, handler: u16, p: u32, q: u32, h: u32) -> Ruling
-    ensures { λ o. ⌜ o ≡ ruling (k .vars) (newRule (k .vars) x c handler (rowFrom n (now (r .entry)) (k .vars) p) (rowFrom n (now (r .entry)) (k .vars) q) (rowFrom n (now (r .entry)) (k .vars) h)) ⌝ }
+    ensures { λ o. ⌜ o ≡ ruling (k .vars) (newRule (k .vars) x c handler (rowFrom n k (now (r .entry)) p) (rowFrom n k (now (r .entry)) q) (rowFrom n k (now (r .entry)) h)) ⌝ }
 {
-    let t = entries::compare_made(n, x, rows::stack_word(r, h, k.vars, k.limit, 0));
+    let t = entries::compare_made(n, x, rows::stack_word(n, k, r, h, 0));
     judged(
         matching::stack_goes(n, k, r, p)
             & throw_met(n, k, r, handler, true, p, h)
@@ -275,9 +275,9 @@ fn new_rule(n: u8, k: Class, r: &[u8], x: u8, c: u8, handler: u16, p: u32, q: u3
 
 // s is the record of the class that is started: its descriptors come first.
 fn argument_goes(n: u8, k: Class, r: &[u8], s: &[u8], p: u32, j: u8) -> bool
-    ensures { λ o. ⌜ o ≡ argumentGoes (at (now (s .entry))) (rowFrom n (now (r .entry)) (k .vars) p) j ⌝ }
+    ensures { λ o. ⌜ o ≡ argumentGoes (at (now (s .entry))) (rowFrom n k (now (r .entry)) p) j ⌝ }
 {
-    let w = rows::stack_word(r, p, k.vars, k.limit, j);
+    let w = rows::stack_word(n, k, r, p, j);
     if !entries::matches(n, ground::byte(s, j as usize), w) {
         return false;
     }
@@ -285,7 +285,7 @@ fn argument_goes(n: u8, k: Class, r: &[u8], s: &[u8], p: u32, j: u8) -> bool
 }
 
 fn arguments_go(n: u8, k: Class, r: &[u8], s: &[u8], args: u8, p: u32) -> bool
-    ensures { λ o. ⌜ o ≡ argumentsGo args (at (now (s .entry))) (rowFrom n (now (r .entry)) (k .vars) p) ⌝ }
+    ensures { λ o. ⌜ o ≡ argumentsGo args (at (now (s .entry))) (rowFrom n k (now (r .entry)) p) ⌝ }
 {
     for j in 0..args {
         if !argument_goes(n, k, r, s, p, j) {
@@ -296,9 +296,9 @@ fn arguments_go(n: u8, k: Class, r: &[u8], s: &[u8], args: u8, p: u32) -> bool
 }
 
 fn object_goes(n: u8, k: Class, r: &[u8], c: u8, p: u32, j: u8) -> bool
-    ensures { λ o. ⌜ o ≡ objectGoes c (rowFrom n (now (r .entry)) (k .vars) p) j ⌝ }
+    ensures { λ o. ⌜ o ≡ objectGoes c (rowFrom n k (now (r .entry)) p) j ⌝ }
 {
-    let w = rows::stack_word(r, p, k.vars, k.limit, j);
+    let w = rows::stack_word(n, k, r, p, j);
     if !entries::is_of(n, c, w) {
         return false;
     }
@@ -307,7 +307,7 @@ fn object_goes(n: u8, k: Class, r: &[u8], c: u8, p: u32, j: u8) -> bool
 
 // A depth is a byte, so no stack holds 256 entries.
 fn start_rule(n: u8, k: Class, r: &[u8], s: &[u8], args: u8, c: u8, p: u32, q: u32) -> Ruling
-    ensures { λ o. ⌜ o ≡ ruling (k .vars) (startRule args (at (now (s .entry))) c (rowFrom n (now (r .entry)) (k .vars) p) (rowFrom n (now (r .entry)) (k .vars) q)) ⌝ }
+    ensures { λ o. ⌜ o ≡ ruling (k .vars) (startRule args (at (now (s .entry))) c (rowFrom n k (now (r .entry)) p) (rowFrom n k (now (r .entry)) q)) ⌝ }
 {
     if args == 255 {
         return Ruling {
@@ -325,7 +325,7 @@ fn start_rule(n: u8, k: Class, r: &[u8], s: &[u8], args: u8, c: u8, p: u32, q: u
 }
 
 fn return_rule(n: u8, k: Class, r: &[u8], p: u32) -> Ruling
-    ensures { λ o. ⌜ o ≡ ruling (k .vars) (returnRule (k .vars) (rowFrom n (now (r .entry)) (k .vars) p)) ⌝ }
+    ensures { λ o. ⌜ o ≡ ruling (k .vars) (returnRule (k .vars) (rowFrom n k (now (r .entry)) p)) ⌝ }
 {
     judged(
         matching::stack_goes(n, k, r, p) & matching::vars_go(n, k, r, p),
@@ -334,7 +334,7 @@ fn return_rule(n: u8, k: Class, r: &[u8], p: u32) -> Ruling
 }
 
 fn start_of(b: &[u8], n: u8, k: Class, r: &[u8], c: u8, p: u32, q: u32) -> Ruling
-    ensures { λ o. ⌜ o ≡ ruling (k .vars) (startRule (programOf (now (b .entry)) .method c .args) (programOf (now (b .entry)) .method c .descriptor) c (rowFrom n (now (r .entry)) (k .vars) p) (rowFrom n (now (r .entry)) (k .vars) q)) ⌝ }
+    ensures { λ o. ⌜ o ≡ ruling (k .vars) (startRule (programOf (now (b .entry)) .method c .args) (programOf (now (b .entry)) .method c .descriptor) c (rowFrom n k (now (r .entry)) p) (rowFrom n k (now (r .entry)) q)) ⌝ }
 {
     let started = bundle::class_at(b, c);
     start_rule(n, k, r, bundle::part_of(b, started), started.args, c, p, q)

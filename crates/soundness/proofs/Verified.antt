@@ -1,10 +1,11 @@
 -- Verdict 0 gives what soundness asks of a program and its rows.
-use Prim.Native.Nat.{ℕ, _≤_, _<_}
+use Prim.Native.Nat.{ℕ, _+_, _≤_, _<_}
 use mathlib.Core.Path.{_≡_, refl}
 use mathlib.Core.List.{List}
 use mathlib.Core.Bool.{Bool, true, false, cond}
 use native.Mathlib.Omega.{arith}
-use lib.Dec.{eqb}
+use lib.Dec.{ltb, eqb}
+use lib.ListN.{length}
 use borrow.Author.Tests.{leb-true, eqb-true, lt-ltb, le-ltb}
 use Rattle.ground.specs.Bytes.{at}
 use Rattle.ground.specs.Chain.{refuse}
@@ -13,9 +14,9 @@ use Rattle.ground.proofs.Bounded.{all-elim}
 use Rattle.bundle.specs.Container.{classes, classAt, partOf}
 use Rattle.bundle.specs.Program.{methodOf, methodAt, programOf}
 use Rattle.structure.proofs.Structured.{WellFormed, well-formed}
-use Rattle.entries.specs.Entries.{Entry, Int, Top, Ref, Blank, Malformed, minEnd, zeros, pairOk, entryOf, entryFrom, endOf, isTop, isType, argumentEntry}
+use Rattle.entries.specs.Entries.{Entry, Int, Top, Ref, Blank, Malformed, minEnd, zeros, pairOk, entryOf, endOf, isTop, isType, argumentEntry}
 use Rattle.entries.specs.Fits.{entryFits}
-use Rattle.rows.specs.Rows.{Row, variableAt, stackAt, rowAt}
+use Rattle.rows.specs.Rows.{Row, entryAt, variableAt, stackAt, rowAt}
 use Rattle.forms.specs.Forms.{varFormed, entryFormed, varsFormed, stackFormed, rowFormed, firstVar, firstVars, firstRow}
 use Rattle.verifier.specs.Verdict.{verdictOf}
 use Rattle.verifier.specs.Places.{form, first, rule}
@@ -32,6 +33,10 @@ low : (n c d e : ℕ) → pairOk n c d e ≡ true → 1 ≤ e
 unfolding pairOk
 low n c d e h = leb-true minEnd e (search (and-fst, and-snd))
 
+either : (b : Bool) (x y : Entry) → 1 ≤ endOf x → 1 ≤ endOf y → 1 ≤ endOf (cond b x y)
+either true x y p q = p
+either false x y p q = q
+
 entry-end : (n kind c d e : ℕ) → 1 ≤ endOf (entryOf n kind c d e)
 unfolding entryOf refuse
 entry-end n kind c d e =
@@ -40,13 +45,13 @@ entry-end n kind c d e =
     (either (eqb kind 2) _ _ (either (zeros c d e) Top Malformed (omega arith) (omega arith))
     (either (eqb kind 3) _ _ (pair (pairOk n c d e) (λ h. low n c d e h)) (omega arith))))
   where
-    either : (b : Bool) (x y : Entry) → 1 ≤ endOf x → 1 ≤ endOf y → 1 ≤ endOf (cond b x y)
-    either true x y p q = p
-    either false x y p q = q
-
     pair : (b : Bool) → (b ≡ true → 1 ≤ e) → 1 ≤ endOf (cond b (Ref c d e) Malformed)
     pair true p = p refl
     pair false p = omega arith
+
+read-end : (n : ℕ) (r : List ℕ) (p : ℕ) → 1 ≤ endOf (entryAt n r p)
+unfolding entryAt refuse
+read-end n r p = either (ltb (p + 3) (length r)) _ Blank (entry-end n _ _ _ _) (omega arith)
 
 is-top : (e : Entry) → isTop e ≡ true → e ≡ Top
 is-top Int h = nope h
@@ -84,7 +89,7 @@ module _ (vars args : ℕ) (descriptor : ℕ → ℕ) (x : Row) (h : firstRow va
 
 -- THEOREM: a bundle with verdict 0 is accepted
 pub accepted : (b : List ℕ) → verdictOf b .number ≡ 0 → Accepted (programOf b) (rowsOf b)
-unfolding programOf methodAt methodOf variableAt stackAt entryFrom
+unfolding programOf methodAt methodOf variableAt stackAt refuse
 accepted b e =
     let w : WellFormed (programOf b) = well-formed b (agrees-back b e) in
     record {
@@ -92,8 +97,8 @@ accepted b e =
       depth-limit = λ c l a. formed-depth _ _ (rowsOf b c l) (verdict-zero b e (form c l) (a .class-known, a .first, a .last));
       variable-type = λ c l i a. formed-variable _ _ (rowsOf b c l) (verdict-zero b e (form c l) (a .class-known, a .first, a .last)) i;
       stack-type = λ c l j a. formed-stack _ _ (rowsOf b c l) (verdict-zero b e (form c l) (a .class-known, a .first, a .last)) j;
-      variable-end = λ c l i. entry-end _ _ _ _ _;
-      stack-end = λ c l j. entry-end _ _ _ _ _;
+      variable-end = λ c l i. read-end _ _ _;
+      stack-end = λ c l j. either (ltb j (classAt b c .limit)) _ Blank (read-end _ _ _) (omega arith);
       first-depth = λ c l. first-depth _ _ _ (rowsOf b c 1) (verdict-zero b e (first c) l);
       first-argument = λ c i l a. first-argument _ _ _ (rowsOf b c 1) (verdict-zero b e (first c) l) i a (omega (arith, w .args-vars c l));
       first-other = λ c i l a. first-other _ _ _ (rowsOf b c 1) (verdict-zero b e (first c) l) i a;

@@ -1,4 +1,4 @@
-use Rattle.entries.specs.Entries.{entryFrom}
+use Rattle.entries.specs.Words.{entryFrom}
 use Rattle.entries.proofs.Words.{word-class}
 use Rattle.entries.proofs.Types.{no-class}
 use mathlib.Core.Path.{sym, _∙_}

@@ -1,5 +1,5 @@
 use Rattle.entries.proofs.Types.{kind-told}
-use Rattle.entries.specs.Entries.{entryFrom}
+use Rattle.entries.specs.Words.{entryFrom}
 use mathlib.Core.Path.{sym, _∙_}
 use borrow.Author.Needs.{needs}
 use Rattle.entries.proofs.kind_of.Statement.{statement}

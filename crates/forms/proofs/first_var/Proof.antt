@@ -1,4 +1,3 @@
-use Rattle.rows.specs.Rows.{variableAt}
 use Rattle.forms.specs.Forms.{firstVar}
 use borrow.Author.Tests.{lt-ltb, le-ltb}
 use borrow.Author.Needs.{needs}
@@ -15,15 +14,15 @@ compare-argument-requires : tie.Need-compare-argument-requires
 compare-argument-requires c κs = search needs
 
 returns : tie.Need-returns
-unfolding firstVar variableAt
-returns c = rw (lt-ltb _ _ (c .before .before .if1 .taken), ← c .before .before .before .before .variable-word .ensures, ← c .before .byte .ensures, c .compare-argument .ensures)
+unfolding firstVar
+returns c = rw (lt-ltb _ _ (c .before .before .if1 .taken), ← c .before .before .before .before .variable-word .ensures .1, ← c .before .byte .ensures, c .compare-argument .ensures)
 
 is-top-requires : tie.Need-is-top-requires
 is-top-requires c κs = search needs
 
 returns-2 : tie.Need-returns-2
-unfolding firstVar variableAt
-returns-2 c = rw (le-ltb _ _ (c .before .if1 .left), ← c .before .before .before .variable-word .ensures) (c .is-top .ensures)
+unfolding firstVar
+returns-2 c = rw (le-ltb _ _ (c .before .if1 .left), ← c .before .before .before .variable-word .ensures .1) (c .is-top .ensures)
 
 pub first-var-spec : {M : Type 1} → statement M
 first-var-spec =

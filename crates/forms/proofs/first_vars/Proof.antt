@@ -12,7 +12,7 @@ use Rattle.forms.proofs.first_vars.Statement.{statement}
 use Rattle.forms.proofs.first_vars.Tie as tie
 
 abbrev Inv-loop : tie.InvT-loop
-Inv-loop n k r p vars i₀ i = (i ≤ vars) × (allBelow i (firstVar (k .args) (at r) (rowFrom n r (k .vars) p)) ≡ true)
+Inv-loop n k r p vars i₀ i = (i ≤ vars) × (allBelow i (firstVar (k .args) (at r) (rowFrom n k r p)) ≡ true)
 
 abbrev μ-loop : tie.MeasureT-loop
 μ-loop n k r p vars i₀ i = vars - i

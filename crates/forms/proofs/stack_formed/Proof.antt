@@ -11,7 +11,7 @@ use Rattle.forms.proofs.stack_formed.Statement.{statement}
 use Rattle.forms.proofs.stack_formed.Tie as tie
 
 abbrev Inv-loop : tie.InvT-loop
-Inv-loop n k r p d limit j₀ j = (j ≤ limit) × (allBelow j (entryFormed (rowFrom n r (k .vars) p)) ≡ true)
+Inv-loop n k r p d limit j₀ j = (j ≤ limit) × (allBelow j (entryFormed (rowFrom n k r p)) ≡ true)
 
 abbrev μ-loop : tie.MeasureT-loop
 μ-loop n k r p d limit j₀ j = limit - j

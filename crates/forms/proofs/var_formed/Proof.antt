@@ -1,4 +1,3 @@
-use Rattle.rows.specs.Rows.{variableAt}
 use borrow.Author.Needs.{needs}
 use Rattle.forms.proofs.var_formed.Statement.{statement}
 use Rattle.forms.proofs.var_formed.Tie as tie
@@ -10,8 +9,7 @@ is-type-requires : tie.Need-is-type-requires
 is-type-requires c κs = search needs
 
 returns : tie.Need-returns
-unfolding variableAt
-returns c = rw (← c .before .variable-word .ensures) (c .is-type .ensures)
+returns c = rw (← c .before .variable-word .ensures .1) (c .is-type .ensures)
 
 pub var-formed-spec : {M : Type 1} → statement M
 var-formed-spec = tie.close (tie.spec variable-word-requires is-type-requires returns)

@@ -11,7 +11,7 @@ use Rattle.forms.proofs.vars_formed.Statement.{statement}
 use Rattle.forms.proofs.vars_formed.Tie as tie
 
 abbrev Inv-loop : tie.InvT-loop
-Inv-loop n k r p vars i₀ i = (i ≤ vars) × (allBelow i (varFormed (rowFrom n r (k .vars) p)) ≡ true)
+Inv-loop n k r p vars i₀ i = (i ≤ vars) × (allBelow i (varFormed (rowFrom n k r p)) ≡ true)
 
 abbrev μ-loop : tie.MeasureT-loop
 μ-loop n k r p vars i₀ i = vars - i

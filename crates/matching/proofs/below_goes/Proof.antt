@@ -1,4 +1,3 @@
-use Rattle.rows.specs.Rows.{stackAt}
 use borrow.Author.Needs.{needs}
 use Rattle.matching.proofs.below_goes.Statement.{statement}
 use Rattle.matching.proofs.below_goes.Tie as tie
@@ -13,8 +12,7 @@ may-go-requires : tie.Need-may-go-requires
 may-go-requires c κs = search needs
 
 returns : tie.Need-returns
-unfolding stackAt
-returns c = rw (← c .before .stack-word .ensures) (c .may-go .ensures)
+returns c = rw (← c .before .stack-word .ensures .1) (c .may-go .ensures)
 
 pub below-goes-spec : {M : Type 1} → statement M
 below-goes-spec = tie.close (tie.spec add-stack-word stack-word-requires may-go-requires returns)

@@ -1,4 +1,3 @@
-use Rattle.rows.specs.Rows.{stackAt}
 use Rattle.rows.specs.Rows.{rowFrom}
 use Rattle.matching.proofs.Edges.{replaced-edge}
 use mathlib.Core.Path.{sym, _∙_}
@@ -16,8 +15,7 @@ pass-requires : tie.Need-pass-requires
 pass-requires c κs = search needs
 
 returns : tie.Need-returns
-unfolding stackAt
-returns c = (rw (c .before .compare-int .ensures, c .before .before .stack-word .ensures) at (c .pass .ensures)) ∙ sym (replaced-edge _ (rowFrom (c .before .before .before .before .args .n) (c .before .before .before .before .args .r .now) (c .before .before .before .before .args .k .vars) (c .before .before .before .before .args .p)) (rowFrom (c .before .before .before .before .args .n) (c .before .before .before .before .args .r .now) (c .before .before .before .before .args .k .vars) (c .before .before .before .before .args .q)) _)
+returns c = (rw (c .before .compare-int .ensures, c .before .before .stack-word .ensures .1) at (c .pass .ensures)) ∙ sym (replaced-edge _ (rowFrom (c .before .before .before .before .args .n) (c .before .before .before .before .args .k) (c .before .before .before .before .args .r .now) (c .before .before .before .before .args .p)) (rowFrom (c .before .before .before .before .args .n) (c .before .before .before .before .args .k) (c .before .before .before .before .args .r .now) (c .before .before .before .before .args .q)) _)
 
 pub counted-edge-spec : {M : Type 1} → statement M
 counted-edge-spec = tie.close (tie.spec stack-word-requires compare-int-requires pass-requires returns)

@@ -1,4 +1,3 @@
-use Rattle.rows.specs.Rows.{variableAt}
 use Rattle.matching.proofs.Edges.{moved-edge}
 use mathlib.Core.Path.{sym, _∙_}
 use borrow.Author.Needs.{needs}
@@ -18,8 +17,7 @@ pass-but-requires : tie.Need-pass-but-requires
 pass-but-requires c κs = search needs
 
 returns : tie.Need-returns
-unfolding variableAt
-returns c = (rw (c .before .compare-entered .ensures, c .before .before .before .variable-word .ensures, c .before .before .variable-word2 .ensures) at (c .pass-but .ensures)) ∙ sym (moved-edge _ _ _ _ _)
+returns c = (rw (c .before .compare-entered .ensures, c .before .before .before .variable-word .ensures .1, c .before .before .variable-word2 .ensures .1) at (c .pass-but .ensures)) ∙ sym (moved-edge _ _ _ _ _)
 
 pub entered-edge-spec : {M : Type 1} → statement M
 entered-edge-spec =

@@ -1,4 +1,3 @@
-use Rattle.rows.specs.Rows.{stackAt}
 use borrow.Author.Needs.{needs}
 use Rattle.matching.proofs.entry_goes.Statement.{statement}
 use Rattle.matching.proofs.entry_goes.Tie as tie
@@ -10,8 +9,7 @@ may-go-requires : tie.Need-may-go-requires
 may-go-requires c κs = search needs
 
 returns : tie.Need-returns
-unfolding stackAt
-returns c = rw (← c .before .stack-word .ensures) (c .may-go .ensures)
+returns c = rw (← c .before .stack-word .ensures .1) (c .may-go .ensures)
 
 pub entry-goes-spec : {M : Type 1} → statement M
 entry-goes-spec = tie.close (tie.spec stack-word-requires may-go-requires returns)

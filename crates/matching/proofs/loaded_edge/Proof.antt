@@ -1,4 +1,3 @@
-use Rattle.rows.specs.Rows.{stackAt, variableAt}
 use Rattle.matching.proofs.Edges.{loaded-reference, loaded-other}
 use Rattle.rows.specs.Rows.{rowFrom}
 use mathlib.Core.Path.{sym, _∙_}
@@ -25,8 +24,7 @@ pass-but-requires : tie.Need-pass-but-requires
 pass-but-requires c κs = search needs
 
 returns : tie.Need-returns
-unfolding variableAt stackAt
-returns c = (rw (c .before .compare-both .ensures, c .before .before .before .before .before .before .variable-word .ensures, c .before .before .variable-word2 .ensures, c .before .before .before .before .before .stack-word .ensures) at (c .pass-but .ensures)) ∙ sym (loaded-reference _ (rowFrom (c .before .before .before .before .before .before .before .before .args .n) (c .before .before .before .before .before .before .before .before .args .r .now) (c .before .before .before .before .before .before .before .before .args .k .vars) (c .before .before .before .before .before .before .before .before .args .p)) (rowFrom (c .before .before .before .before .before .before .before .before .args .n) (c .before .before .before .before .before .before .before .before .args .r .now) (c .before .before .before .before .before .before .before .before .args .k .vars) (c .before .before .before .before .before .before .before .before .args .q)) _ (rw (c .before .before .before .before .is-reference .ensures, c .before .before .before .before .before .before .variable-word .ensures) at (c .before .before .before .if1 .taken)))
+returns c = (rw (c .before .compare-both .ensures, c .before .before .before .before .before .before .variable-word .ensures .1, c .before .before .variable-word2 .ensures .1, c .before .before .before .before .before .stack-word .ensures .1) at (c .pass-but .ensures)) ∙ sym (loaded-reference _ (rowFrom (c .before .before .before .before .before .before .before .before .args .n) (c .before .before .before .before .before .before .before .before .args .k) (c .before .before .before .before .before .before .before .before .args .r .now) (c .before .before .before .before .before .before .before .before .args .p)) (rowFrom (c .before .before .before .before .before .before .before .before .args .n) (c .before .before .before .before .before .before .before .before .args .k) (c .before .before .before .before .before .before .before .before .args .r .now) (c .before .before .before .before .before .before .before .before .args .q)) _ (rw (c .before .before .before .before .is-reference .ensures, c .before .before .before .before .before .before .variable-word .ensures .1) at (c .before .before .before .if1 .taken)))
 
 word-short-requires : tie.Need-word-short-requires
 word-short-requires c κs = search needs
@@ -35,8 +33,7 @@ pass-requires : tie.Need-pass-requires
 pass-requires c κs = search needs
 
 returns-2 : tie.Need-returns-2
-unfolding variableAt stackAt
-returns-2 c = (rw (c .before .word-short .ensures, c .before .before .before .before .before .variable-word .ensures, c .before .before .before .before .stack-word .ensures) at (c .pass .ensures)) ∙ sym (loaded-other _ (rowFrom (c .before .before .before .before .before .before .before .args .n) (c .before .before .before .before .before .before .before .args .r .now) (c .before .before .before .before .before .before .before .args .k .vars) (c .before .before .before .before .before .before .before .args .p)) (rowFrom (c .before .before .before .before .before .before .before .args .n) (c .before .before .before .before .before .before .before .args .r .now) (c .before .before .before .before .before .before .before .args .k .vars) (c .before .before .before .before .before .before .before .args .q)) _ (rw (c .before .before .before .is-reference .ensures, c .before .before .before .before .before .variable-word .ensures) at (c .before .before .if1 .left)))
+returns-2 c = (rw (c .before .word-short .ensures, c .before .before .before .before .before .variable-word .ensures .1, c .before .before .before .before .stack-word .ensures .1) at (c .pass .ensures)) ∙ sym (loaded-other _ (rowFrom (c .before .before .before .before .before .before .before .args .n) (c .before .before .before .before .before .before .before .args .k) (c .before .before .before .before .before .before .before .args .r .now) (c .before .before .before .before .before .before .before .args .p)) (rowFrom (c .before .before .before .before .before .before .before .args .n) (c .before .before .before .before .before .before .before .args .k) (c .before .before .before .before .before .before .before .args .r .now) (c .before .before .before .before .before .before .before .args .q)) _ (rw (c .before .before .before .is-reference .ensures, c .before .before .before .before .before .variable-word .ensures .1) at (c .before .before .if1 .left)))
 
 pub loaded-edge-spec : {M : Type 1} → statement M
 loaded-edge-spec =

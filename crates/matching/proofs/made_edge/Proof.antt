@@ -1,4 +1,3 @@
-use Rattle.rows.specs.Rows.{stackAt}
 use Rattle.matching.proofs.Edges.{pushed-edge}
 use mathlib.Core.Path.{sym, _∙_}
 use borrow.Author.Needs.{needs}
@@ -15,8 +14,7 @@ pass-requires : tie.Need-pass-requires
 pass-requires c κs = search needs
 
 returns : tie.Need-returns
-unfolding stackAt
-returns c = rw (c .before .compare-made .ensures, c .before .before .stack-word .ensures) at (c .pass .ensures) ∙ sym (pushed-edge _ _ _ _)
+returns c = rw (c .before .compare-made .ensures, c .before .before .stack-word .ensures .1) at (c .pass .ensures) ∙ sym (pushed-edge _ _ _ _)
 
 pub made-edge-spec : {M : Type 1} → statement M
 made-edge-spec = tie.close (tie.spec stack-word-requires compare-made-requires pass-requires returns)

@@ -12,7 +12,7 @@ use Rattle.matching.proofs.rest_goes.Statement.{statement}
 use Rattle.matching.proofs.rest_goes.Tie as tie
 
 abbrev Inv-loop : tie.InvT-loop
-Inv-loop n k r p rest j₀ j = (j ≤ rest) × (allBelow j (entryGoes (popped 1 (rowFrom n r (k .vars) p))) ≡ true)
+Inv-loop n k r p rest j₀ j = (j ≤ rest) × (allBelow j (entryGoes (popped 1 (rowFrom n k r p))) ≡ true)
 
 abbrev μ-loop : tie.MeasureT-loop
 μ-loop n k r p rest j₀ j = rest - j

@@ -13,7 +13,7 @@ use Rattle.matching.proofs.rest_pass.Statement.{statement}
 use Rattle.matching.proofs.rest_pass.Tie as tie
 
 abbrev Inv-loop : tie.InvT-loop
-Inv-loop n k r a b p q rest j₀ j = (j ≤ rest) × (firstShort j (restShort a b (rowFrom n r (k .vars) p) (rowFrom n r (k .vars) q)) ≡ 0)
+Inv-loop n k r a b p q rest j₀ j = (j ≤ rest) × (firstShort j (restShort a b (rowFrom n k r p) (rowFrom n k r q)) ≡ 0)
 
 abbrev μ-loop : tie.MeasureT-loop
 μ-loop n k r a b p q rest j₀ j = rest - j

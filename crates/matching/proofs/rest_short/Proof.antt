@@ -1,4 +1,3 @@
-use Rattle.rows.specs.Rows.{stackAt}
 use borrow.Author.Needs.{needs}
 use Rattle.matching.proofs.rest_short.Statement.{statement}
 use Rattle.matching.proofs.rest_short.Tie as tie
@@ -19,8 +18,7 @@ word-short-requires : tie.Need-word-short-requires
 word-short-requires c κs = search needs
 
 returns : tie.Need-returns
-unfolding stackAt
-returns c = rw (← c .before .before .stack-word .ensures, ← c .before .stack-word2 .ensures) (c .word-short .ensures)
+returns c = rw (← c .before .before .stack-word .ensures .1, ← c .before .stack-word2 .ensures .1) (c .word-short .ensures)
 
 pub rest-short-spec : {M : Type 1} → statement M
 rest-short-spec =

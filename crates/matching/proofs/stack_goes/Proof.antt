@@ -11,7 +11,7 @@ use Rattle.matching.proofs.stack_goes.Statement.{statement}
 use Rattle.matching.proofs.stack_goes.Tie as tie
 
 abbrev Inv-loop : tie.InvT-loop
-Inv-loop n k r p d j₀ j = (j ≤ d) × (allBelow j (entryGoes (rowFrom n r (k .vars) p)) ≡ true)
+Inv-loop n k r p d j₀ j = (j ≤ d) × (allBelow j (entryGoes (rowFrom n k r p)) ≡ true)
 
 abbrev μ-loop : tie.MeasureT-loop
 μ-loop n k r p d j₀ j = d - j

@@ -1,6 +1,5 @@
 use Rattle.rows.specs.Rows.{rowFrom}
 use Rattle.matching.proofs.Edges.{stored-edge}
-use Rattle.rows.specs.Rows.{variableAt, stackAt}
 use mathlib.Core.Path.{sym, _∙_}
 use borrow.Author.Needs.{needs}
 use Rattle.matching.proofs.stored_edge.Statement.{statement}
@@ -19,8 +18,7 @@ pass-but-requires : tie.Need-pass-but-requires
 pass-but-requires c κs = search needs
 
 returns : tie.Need-returns
-unfolding variableAt stackAt
-returns c = (rw (c .before .word-short .ensures, c .before .before .before .stack-word .ensures, c .before .before .variable-word .ensures) at (c .pass-but .ensures)) ∙ sym (stored-edge _ (rowFrom (c .before .before .before .before .before .args .n) (c .before .before .before .before .before .args .r .now) (c .before .before .before .before .before .args .k .vars) (c .before .before .before .before .before .args .p)) (rowFrom (c .before .before .before .before .before .args .n) (c .before .before .before .before .before .args .r .now) (c .before .before .before .before .before .args .k .vars) (c .before .before .before .before .before .args .q)) _)
+returns c = (rw (c .before .word-short .ensures, c .before .before .before .stack-word .ensures .1, c .before .before .variable-word .ensures .1) at (c .pass-but .ensures)) ∙ sym (stored-edge _ (rowFrom (c .before .before .before .before .before .args .n) (c .before .before .before .before .before .args .k) (c .before .before .before .before .before .args .r .now) (c .before .before .before .before .before .args .p)) (rowFrom (c .before .before .before .before .before .args .n) (c .before .before .before .before .before .args .k) (c .before .before .before .before .before .args .r .now) (c .before .before .before .before .before .args .q)) _)
 
 pub stored-edge-spec : {M : Type 1} → statement M
 stored-edge-spec =

@@ -1,4 +1,3 @@
-use Rattle.rows.specs.Rows.{variableAt}
 use borrow.Author.Needs.{needs}
 use Rattle.matching.proofs.var_goes.Statement.{statement}
 use Rattle.matching.proofs.var_goes.Tie as tie
@@ -10,8 +9,7 @@ may-go-requires : tie.Need-may-go-requires
 may-go-requires c κs = search needs
 
 returns : tie.Need-returns
-unfolding variableAt
-returns c = rw (← c .before .variable-word .ensures) (c .may-go .ensures)
+returns c = rw (← c .before .variable-word .ensures .1) (c .may-go .ensures)
 
 pub var-goes-spec : {M : Type 1} → statement M
 var-goes-spec = tie.close (tie.spec variable-word-requires may-go-requires returns)

@@ -1,5 +1,4 @@
 use Rattle.entries.proofs.Words.{same-word}
-use Rattle.rows.specs.Rows.{variableAt}
 use borrow.Author.Needs.{needs}
 use Rattle.matching.proofs.var_short.Statement.{statement}
 use Rattle.matching.proofs.var_short.Tie as tie
@@ -11,15 +10,13 @@ variable-word-requires-2 : tie.Need-variable-word-requires-2
 variable-word-requires-2 c κs = search needs
 
 returns : tie.Need-returns
-unfolding variableAt
-returns c = rw (← c .before .before .variable-word .ensures, ← c .before .variable-word2 .ensures) (same-word _ _ _ (c .if1 .taken))
+returns c = rw (← c .before .before .variable-word .ensures .1, ← c .before .variable-word2 .ensures .1) (same-word _ _ _ (c .if1 .taken))
 
 compare-requires : tie.Need-compare-requires
 compare-requires c κs = search needs
 
 returns-2 : tie.Need-returns-2
-unfolding variableAt
-returns-2 c = rw (← c .before .before .before .variable-word .ensures, ← c .before .before .variable-word2 .ensures) (c .compare .ensures)
+returns-2 c = rw (← c .before .before .before .variable-word .ensures .1, ← c .before .before .variable-word2 .ensures .1) (c .compare .ensures)
 
 pub var-short-spec : {M : Type 1} → statement M
 var-short-spec =

@@ -11,7 +11,7 @@ use Rattle.matching.proofs.vars_go.Statement.{statement}
 use Rattle.matching.proofs.vars_go.Tie as tie
 
 abbrev Inv-loop : tie.InvT-loop
-Inv-loop n k r p vars i₀ i = (i ≤ vars) × (allBelow i (varGoes (rowFrom n r (k .vars) p)) ≡ true)
+Inv-loop n k r p vars i₀ i = (i ≤ vars) × (allBelow i (varGoes (rowFrom n k r p)) ≡ true)
 
 abbrev μ-loop : tie.MeasureT-loop
 μ-loop n k r p vars i₀ i = vars - i

@@ -1,4 +1,4 @@
-use Rattle.rows.specs.Rows.{stackWord}
+use Rattle.rows.specs.Words.{stackWord}
 use borrow.Author.Needs.{needs}
 use Rattle.rows.proofs.read_stack.Statement.{statement}
 use Rattle.rows.proofs.read_stack.Tie as tie

@@ -1,4 +1,4 @@
-use Rattle.rows.specs.Rows.{variableWord}
+use Rattle.rows.specs.Words.{variableWord}
 use borrow.Author.Needs.{needs}
 use Rattle.rows.proofs.read_variable.Statement.{statement}
 use Rattle.rows.proofs.read_variable.Tie as tie

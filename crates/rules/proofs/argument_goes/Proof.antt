@@ -1,4 +1,3 @@
-use Rattle.rows.specs.Rows.{stackAt}
 use Rattle.ground.proofs.Bools.{passed, failed}
 use Rattle.rules.specs.Rules.{argumentGoes}
 use borrow.Author.Needs.{needs}
@@ -15,15 +14,15 @@ matches-requires : tie.Need-matches-requires
 matches-requires c κs = search needs
 
 returns : tie.Need-returns
-unfolding argumentGoes stackAt
-returns c = rw (← c .before .before .before .stack-word .ensures, ← c .before .before .byte .ensures, failed (c .before .matches .ensures) (c .if1 .taken))
+unfolding argumentGoes
+returns c = rw (← c .before .before .before .stack-word .ensures .1, ← c .before .before .byte .ensures, failed (c .before .matches .ensures) (c .if1 .taken))
 
 may-go-requires : tie.Need-may-go-requires
 may-go-requires c κs = search needs
 
 returns-2 : tie.Need-returns-2
-unfolding argumentGoes stackAt
-returns-2 c = rw (← c .before .before .before .before .stack-word .ensures, ← c .before .before .before .byte .ensures, passed (c .before .before .matches .ensures) (c .before .if1 .left)) (c .may-go .ensures)
+unfolding argumentGoes
+returns-2 c = rw (← c .before .before .before .before .stack-word .ensures .1, ← c .before .before .before .byte .ensures, passed (c .before .before .matches .ensures) (c .before .if1 .left)) (c .may-go .ensures)
 
 pub argument-goes-spec : {M : Type 1} → statement M
 argument-goes-spec =

@@ -12,7 +12,7 @@ use Rattle.rules.proofs.arguments_go.Statement.{statement}
 use Rattle.rules.proofs.arguments_go.Tie as tie
 
 abbrev Inv-loop : tie.InvT-loop
-Inv-loop n k r s args p j₀ j = (j ≤ args) × (allBelow j (argumentGoes (at s) (rowFrom n r (k .vars) p)) ≡ true)
+Inv-loop n k r s args p j₀ j = (j ≤ args) × (allBelow j (argumentGoes (at s) (rowFrom n k r p)) ≡ true)
 
 abbrev μ-loop : tie.MeasureT-loop
 μ-loop n k r s args p j₀ j = args - j

@@ -1,4 +1,3 @@
-use Rattle.rows.specs.Rows.{variableAt}
 use Rattle.rules.proofs.Judging.{met-one}
 use Rattle.rules.specs.Rules.{enterRule}
 use mathlib.Core.Path.{sym}
@@ -19,8 +18,8 @@ depth-of-requires-2 : tie.Need-depth-of-requires-2
 depth-of-requires-2 c κs = search needs
 
 returns : tie.Need-returns
-unfolding enterRule variableAt
-returns c = rw (c .before .before .is-reference .ensures, c .before .before .before .variable-word .ensures, c .before .depth-of .ensures .0, c .depth-of2 .ensures .0) (sym (met-one _ _))
+unfolding enterRule
+returns c = rw (c .before .before .is-reference .ensures, c .before .before .before .variable-word .ensures .1, c .before .depth-of .ensures .0, c .depth-of2 .ensures .0) (sym (met-one _ _))
 
 pub enter-met-spec : {M : Type 1} → statement M
 enter-met-spec =

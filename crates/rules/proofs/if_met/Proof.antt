@@ -1,4 +1,3 @@
-use Rattle.rows.specs.Rows.{stackAt}
 use Rattle.rules.proofs.Rules.{if-met}
 use mathlib.Core.Path.{sym}
 use borrow.Author.Needs.{needs}
@@ -27,8 +26,7 @@ add-result-2 : tie.Need-add-result-2
 add-result-2 c = search needs
 
 returns : tie.Need-returns
-unfolding stackAt
-returns c = rw (c .before .before .is-int .ensures, c .before .before .before .stack-word .ensures, c .before .before .before .before .depth-of .ensures .0, c .before .depth-of2 .ensures .0, c .depth-of3 .ensures .0) (sym (if-met _ _ _))
+returns c = rw (c .before .before .is-int .ensures, c .before .before .before .stack-word .ensures .1, c .before .before .before .before .depth-of .ensures .0, c .before .depth-of2 .ensures .0, c .depth-of3 .ensures .0) (sym (if-met _ _ _))
 
 pub if-met-spec : {M : Type 1} → statement M
 if-met-spec =

@@ -1,4 +1,3 @@
-use Rattle.rows.specs.Rows.{stackAt}
 use Rattle.rules.proofs.Rules.{inc-met}
 use mathlib.Core.Path.{sym}
 use borrow.Author.Needs.{needs}
@@ -18,8 +17,7 @@ depth-of-requires-2 : tie.Need-depth-of-requires-2
 depth-of-requires-2 c κs = search needs
 
 returns : tie.Need-returns
-unfolding stackAt
-returns c = rw (c .before .is-int .ensures, c .before .before .stack-word .ensures, c .before .before .before .depth-of .ensures .0, c .depth-of2 .ensures .0) (sym (inc-met _ _))
+returns c = rw (c .before .is-int .ensures, c .before .before .stack-word .ensures .1, c .before .before .before .depth-of .ensures .0, c .depth-of2 .ensures .0) (sym (inc-met _ _))
 
 pub inc-met-spec : {M : Type 1} → statement M
 inc-met-spec =

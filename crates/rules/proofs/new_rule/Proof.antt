@@ -1,4 +1,3 @@
-use Rattle.rows.specs.Rows.{stackAt}
 use Rattle.rules.proofs.Rules.{new-ruling}
 use mathlib.Core.Path.{sym, _∙_}
 use borrow.Author.Needs.{needs}
@@ -39,8 +38,7 @@ judged-requires : tie.Need-judged-requires
 judged-requires c κs = search needs
 
 returns : tie.Need-returns
-unfolding stackAt
-returns c = (rw (c .before .then-short .ensures, c .before .before .thrown-short .ensures, c .before .before .before .made-edge .ensures, c .before .before .before .before .depth-of2 .ensures .0, c .before .before .before .before .before .depth-of .ensures .0, c .before .before .before .before .before .before .throw-met .ensures, c .before .before .before .before .before .before .before .stack-goes .ensures, c .before .before .before .before .before .before .before .before .compare-made .ensures, c .before .before .before .before .before .before .before .before .before .stack-word .ensures) at (c .judged .ensures)) ∙ sym (new-ruling _ _ _ _ _ _ _)
+returns c = (rw (c .before .then-short .ensures, c .before .before .thrown-short .ensures, c .before .before .before .made-edge .ensures, c .before .before .before .before .depth-of2 .ensures .0, c .before .before .before .before .before .depth-of .ensures .0, c .before .before .before .before .before .before .throw-met .ensures, c .before .before .before .before .before .before .before .stack-goes .ensures, c .before .before .before .before .before .before .before .before .compare-made .ensures, c .before .before .before .before .before .before .before .before .before .stack-word .ensures .1) at (c .judged .ensures)) ∙ sym (new-ruling _ _ _ _ _ _ _)
 
 pub new-rule-spec : {M : Type 1} → statement M
 new-rule-spec =

@@ -1,4 +1,3 @@
-use Rattle.rows.specs.Rows.{stackAt}
 use Rattle.rules.proofs.Rules.{pop-met}
 use mathlib.Core.Path.{sym}
 use borrow.Author.Needs.{needs}
@@ -21,8 +20,7 @@ add-result : tie.Need-add-result
 add-result c = search needs
 
 returns : tie.Need-returns
-unfolding stackAt
-returns c = rw (c .before .before .may-go .ensures, c .before .before .before .stack-word .ensures, c .before .depth-of .ensures .0, c .depth-of2 .ensures .0) (sym (pop-met _ _))
+returns c = rw (c .before .before .may-go .ensures, c .before .before .before .stack-word .ensures .1, c .before .depth-of .ensures .0, c .depth-of2 .ensures .0) (sym (pop-met _ _))
 
 pub pop-met-spec : {M : Type 1} → statement M
 pop-met-spec =

@@ -1,4 +1,3 @@
-use Rattle.rows.specs.Rows.{variableAt}
 use Rattle.rules.proofs.Rules.{store-met}
 use mathlib.Core.Path.{sym}
 use borrow.Author.Needs.{needs}
@@ -21,8 +20,7 @@ add-result : tie.Need-add-result
 add-result c = search needs
 
 returns : tie.Need-returns
-unfolding variableAt
-returns c = rw (c .before .before .may-go .ensures, c .before .before .before .variable-word .ensures, c .before .depth-of .ensures .0, c .depth-of2 .ensures .0) (sym (store-met _ _ _))
+returns c = rw (c .before .before .may-go .ensures, c .before .before .before .variable-word .ensures .1, c .before .depth-of .ensures .0, c .depth-of2 .ensures .0) (sym (store-met _ _ _))
 
 pub store-met-spec : {M : Type 1} → statement M
 store-met-spec =

@@ -1,4 +1,3 @@
-use Rattle.rows.specs.Rows.{stackAt}
 use Rattle.rules.proofs.Rules.{throw-ruling}
 use mathlib.Core.Path.{sym, _∙_}
 use borrow.Author.Needs.{needs}
@@ -36,8 +35,7 @@ judged-requires : tie.Need-judged-requires
 judged-requires c κs = search needs
 
 returns : tie.Need-returns
-unfolding stackAt
-returns c = (rw (c .before .thrown-short .ensures, c .before .before .throw-met .ensures, c .before .before .before .may-go .ensures, c .before .before .before .before .rest-goes .ensures, c .before .before .before .before .before .is-of .ensures, c .before .before .before .before .before .before .depth-of .ensures .0, c .before .before .before .before .before .before .before .compare .ensures, c .before .before .before .before .before .before .before .before .stack-word2 .ensures, c .before .before .before .before .before .before .before .before .before .stack-word .ensures) at (c .judged .ensures)) ∙ sym (throw-ruling _ _ _ _ _)
+returns c = (rw (c .before .thrown-short .ensures, c .before .before .throw-met .ensures, c .before .before .before .may-go .ensures, c .before .before .before .before .rest-goes .ensures, c .before .before .before .before .before .is-of .ensures, c .before .before .before .before .before .before .depth-of .ensures .0, c .before .before .before .before .before .before .before .compare .ensures, c .before .before .before .before .before .before .before .before .stack-word2 .ensures .1, c .before .before .before .before .before .before .before .before .before .stack-word .ensures .1) at (c .judged .ensures)) ∙ sym (throw-ruling _ _ _ _ _)
 
 pub throw-rule-spec : {M : Type 1} → statement M
 throw-rule-spec =

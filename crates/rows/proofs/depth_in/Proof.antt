@@ -47,16 +47,16 @@ use Rattle.rows.proofs.depth as depth
 use Rattle.rows.proofs.depth.Symbol as depth-def
 use Rattle.rows.proofs.depth.Symbol.{name as #rows·depth}
 use Rattle.rows.proofs.depth.Met as depth-thm
-use Rattle.rows.proofs.depth_at.Key.{name as #rows·depth-at}
-use Rattle.rows.proofs.depth_at as depth-at
-use Rattle.rows.proofs.depth_at.Statement as stated
-use Rattle.rows.proofs.depth_at.Code as code
+use Rattle.rows.proofs.depth_in.Key.{name as #rows·depth-in}
+use Rattle.rows.proofs.depth_in as depth-in
+use Rattle.rows.proofs.depth_in.Statement as stated
+use Rattle.rows.proofs.depth_in.Code as code
 
 -- the struct's type, over the signature's lifetimes
 abbrev B : Lfts 1 → RattleType
 B κs = T.the-row (namedLft 1 0 tt κs)
 
-abbrev stayed : Stays (depth-at.ended .signature .params) (depth-at.ended .kept)
+abbrev stayed : Stays (depth-in.ended .signature .params) (depth-in.ended .kept)
 stayed = (stay-none-slice (0 ∷ []) tt (plain (λ _. u8)) yes, (stay-none (λ _. u32) yes, (stay-none (λ _. u8) yes, (stay-none (λ _. u8) yes, tt))))
 
 module _ {M : Type 1} (𝓤 : URA M) (H : Heap 𝓤) (A : Atoms 𝓤) (mem : Memory → SProp 𝓤) (run : Routine → Fun 𝓤) where
@@ -79,14 +79,14 @@ module _ {M : Type 1} (𝓤 : URA M) (H : Heap 𝓤) (A : Atoms 𝓤) (W : Given
   abbrev αᵉ : NamedLft
   αᵉ = record { mir = erased; lft = κ }
 
-  abbrev at : Vals depth-at.signature (κ, tt)
+  abbrev at : Vals depth-in.signature (κ, tt)
   at = (v ∷ [], (vint w32 x ∷ [], (vint w8 y ∷ [], (vint w8 z ∷ [], tt))))
 
   abbrev at-new : Vals new.signature (κ, tt)
   at-new = (v ∷ [], (vint w32 x ∷ [], (vint w8 y ∷ [], (vint w8 z ∷ [], tt))))
 
   abbrev Post : Val → SProp 𝓤
-  Post = walkOf 𝓤 H A depth-at.ended stayed (depth-at.clauses 𝓤 H A mem run) .post (((κ, tt), (q, tt), tt, (s, (x, (y, (z, tt)))), at), tt)
+  Post = walkOf 𝓤 H A depth-in.ended stayed (depth-in.clauses 𝓤 H A mem run) .post (((κ, tt), (q, tt), tt, (s, (x, (y, (z, tt)))), at), tt)
 
   abbrev Own : Fml
   Own = ShrSlice (named 0) κ u8 .own s (v ∷ [])
@@ -95,7 +95,7 @@ module _ {M : Type 1} (𝓤 : URA M) (H : Heap 𝓤) (A : Atoms 𝓤) (W : Given
   abbrev to-new : New 𝓤 H A mem run .Ghost
   to-new = (((κ, tt), (q, tt), tt, (s, (x, (y, (z, tt)))), at-new), tt)
 
-  goes-new : ent 𝓤 (onEntry 𝓤 H A depth-at.signature (κ, tt) (q, tt) (s, (x, (y, (z, tt)))) at) (sep 𝓤 (New 𝓤 H A mem run .pre to-new) (sem 𝓤 H A Own))
+  goes-new : ent 𝓤 (onEntry 𝓤 H A depth-in.signature (κ, tt) (q, tt) (s, (x, (y, (z, tt)))) at) (sep 𝓤 (New 𝓤 H A mem run .pre to-new) (sem 𝓤 H A Own))
   goes-new =
       qed W ((‵ (flft κ q) ⊛ ‵ ftrue) ∷ ‵ (owns (ShrSlice (named 0) κ u8 ∷ u32 ∷ u8 ∷ u8 ∷ []) (s, (x, (y, (z, tt)))) at) ∷ []) ∵
       move ! (1 ∷ []) $ fsplit ! $ move ! (1 ∷ []) $ drop ! $ use1 W (‵ Own ⊛ ‵ Own) (shr-slice-copy 𝓤 H A W (named 0) κ u8 .twice s (v ∷ [])) $ split ! $
@@ -124,16 +124,16 @@ module _ {M : Type 1} (𝓤 : URA M) (H : Heap 𝓤) (A : Atoms 𝓤) (W : Given
   exits : (t : ℕ) (u : Val) → t ≡ found → ent 𝓤 (⋆ 𝓤 H A (‵ (u8 .own t (u ∷ [])) ∷ (‵ (flft κ q) ⊛ ‵ ftrue) ∷ ‵ Own ∷ [])) (Post u)
   exits t u e =
       qed W (‵ (u8 .own t (u ∷ [])) ∷ (‵ (flft κ q) ⊛ ‵ ftrue) ∷ ‵ Own ∷ []) ∵
-      suffices ! _ (ends-at 𝓤 H A depth-at.ended stayed (depth-at.clauses 𝓤 H A mem run) W (((κ, tt), (q, tt), tt, (s, (x, (y, (z, tt)))), at), tt) u t (tt, (tt, (tt, (tt, tt)))) (tt, (tt, (tt, (tt, tt))))) $ says ! e $
+      suffices ! _ (ends-at 𝓤 H A depth-in.ended stayed (depth-in.clauses 𝓤 H A mem run) W (((κ, tt), (q, tt), tt, (s, (x, (y, (z, tt)))), at), tt) u t (tt, (tt, (tt, (tt, tt)))) (tt, (tt, (tt, (tt, tt))))) $ says ! e $
       move ! (1 ∷ []) $ frame ! $ nothing ! $ owned ! u8 (Is u8) (uint-makes 𝓤 H A W w8) z _ (refl, okz) $ fjoin ! $ owned ! u8 (Is u8) (uint-makes 𝓤 H A W w8) y _ (refl, oky) $ fjoin ! $ owned ! u32 (Is u32) (uint-makes 𝓤 H A W w32) x _ (refl, okx) $ fjoin ! $ move ! (2 ∷ 0 ∷ []) $ fjoin ! $ frame ! $ done !
 
   same : (r : Row) (t : ℕ) → Made r → Says r t → t ≡ found
   same r t e e′ = e′ ∙ (ap (λ (w : RefT (List ℕ)). depthAt (now w) (r .start) (r .vars)) (e .0) ∙ (ap (λ (w : ℕ). depthAt (now s) w (r .vars)) (e .1) ∙ ap (λ (w : ℕ). depthAt (now s) x w) (e .2)))
 
   module _ (C : Calls 𝓤 H) (Λ : Loops 𝓤 H) (fm : FmC 𝓤 H (W .laws) C) (known-new : Triple 𝓤 (C #rows·new) (New 𝓤 H A mem run)) (known-depth : Triple 𝓤 (C #rows·depth) (Depth 𝓤 H A mem run)) where
-    walk : Is (ShrSlice (named 0) κ u8) s (v ∷ []) → ent 𝓤 (onEntry 𝓤 H A depth-at.signature (κ, tt) (q, tt) (s, (x, (y, (z, tt)))) at) (WpFn 𝓤 H C Λ code.function (v ∷ vint w32 x ∷ vint w8 y ∷ vint w8 z ∷ []) Post)
+    walk : Is (ShrSlice (named 0) κ u8) s (v ∷ []) → ent 𝓤 (onEntry 𝓤 H A depth-in.signature (κ, tt) (q, tt) (s, (x, (y, (z, tt)))) at) (WpFn 𝓤 H C Λ code.function (v ∷ vint w32 x ∷ vint w8 y ∷ vint w8 z ∷ []) Post)
     walk p =
-        qed W (raw (onEntry 𝓤 H A depth-at.signature (κ, tt) (q, tt) (s, (x, (y, (z, tt)))) at) ∷ []) ∵ enter ! C Λ code.function (v ∷ vint w32 x ∷ vint w8 y ∷ vint w8 z ∷ []) _ $
+        qed W (raw (onEntry 𝓤 H A depth-in.signature (κ, tt) (q, tt) (s, (x, (y, (z, tt)))) at) ∷ []) ∵ enter ! C Λ code.function (v ∷ vint w32 x ∷ vint w8 y ∷ vint w8 z ∷ []) _ $
         alloc1 ! (λ l₀. alloc1 ! (λ l₁. alloc1 ! (λ l₂. alloc1 ! (λ l₃. alloc1 ! (λ l₄. alloc1 ! (λ l₅. alloc0 ! $ params1 ! $
         pass1 ! (init ! 8 refl (shr-slice-lawful 𝓤 H A W (named 0) κ u8 .typed s (v ∷ []) p .0)) $ pass1 ! (init ! 6 refl (tt, record { fits = okx })) $ pass1 ! (init ! 4 refl (tt, record { fits = oky })) $ pass1 ! (init ! 2 refl (tt, record { fits = okz })) $ pass0 ! $
         move ! (12 ∷ []) $ use1 W (raw (New 𝓤 H A mem run .pre to-new) ⊛ ‵ Own) goes-new $ split ! $
@@ -155,22 +155,22 @@ module _ {M : Type 1} (𝓤 : URA M) (H : Heap 𝓤) (A : Atoms 𝓤) (W : Given
         by ! (exits t u′ (same r t e e′))))))))))))))))
 
 module _ {M : Type 1} (𝓤 : URA M) (H : Heap 𝓤) (A : Atoms 𝓤) (W : Given 𝓤 H A) (mem : Memory → SProp 𝓤) (run : Routine → Fun 𝓤) where
-  depth-at-walks : (C : Calls 𝓤 H) (Λ : Loops 𝓤 H) → FmC 𝓤 H (W .laws) C → Triple 𝓤 (C #rows·new) (New 𝓤 H A mem run) → Triple 𝓤 (C #rows·depth) (Depth 𝓤 H A mem run)
-      → Walks 𝓤 H A depth-at.ended stayed (WpFn 𝓤 H C Λ code.function) (depth-at.clauses 𝓤 H A mem run)
-  depth-at-walks C Λ fm known-new known-depth = walked 𝓤 H A depth-at.ended stayed (depth-at.clauses 𝓤 H A mem run) (WpFn 𝓤 H C Λ code.function) (λ κs. (slice-vals, (uint-vals w32, (uint-vals w8, (uint-vals w8, tt))))) (λ κs. (shr-slice-tells (named 0) (κs .0) u8, (uint-tells w32, (uint-tells w8, (uint-tells w8, tt)))))
+  depth-in-walks : (C : Calls 𝓤 H) (Λ : Loops 𝓤 H) → FmC 𝓤 H (W .laws) C → Triple 𝓤 (C #rows·new) (New 𝓤 H A mem run) → Triple 𝓤 (C #rows·depth) (Depth 𝓤 H A mem run)
+      → Walks 𝓤 H A depth-in.ended stayed (WpFn 𝓤 H C Λ code.function) (depth-in.clauses 𝓤 H A mem run)
+  depth-in-walks C Λ fm known-new known-depth = walked 𝓤 H A depth-in.ended stayed (depth-in.clauses 𝓤 H A mem run) (WpFn 𝓤 H C Λ code.function) (λ κs. (slice-vals, (uint-vals w32, (uint-vals w8, (uint-vals w8, tt))))) (λ κs. (shr-slice-tells (named 0) (κs .0) u8, (uint-tells w32, (uint-tells w8, (uint-tells w8, tt)))))
       (λ κs qs bounds a g are. via 𝓤 _ (fst∗ 𝓤 _ (emp 𝓤)) (walk 𝓤 H A W mem run (κs .0) (qs .0) (a .0) (a .1 .0) (a .1 .1 .0) (a .1 .1 .1 .0) (are .1 .0 .1) (are .1 .1 .0 .1) (are .1 .1 .1 .0 .1) C Λ fm known-new known-depth (are .0)))
 
-depth-at-meets : {M : Type 1} (𝓤 : URA M) (H : Heap 𝓤) (A : Atoms 𝓤) (W : Given 𝓤 H A) (mem : Memory → SProp 𝓤) (run : Routine → Fun 𝓤) (𝓣 : Tables 𝓤 H)
+depth-in-meets : {M : Type 1} (𝓤 : URA M) (H : Heap 𝓤) (A : Atoms 𝓤) (W : Given 𝓤 H A) (mem : Memory → SProp 𝓤) (run : Routine → Fun 𝓤) (𝓣 : Tables 𝓤 H)
     → Triple 𝓤 (𝓣 .C #rows·new) (New 𝓤 H A mem run) → Triple 𝓤 (𝓣 .C #rows·depth) (Depth 𝓤 H A mem run)
-    → Meets 𝓤 H A depth-at.signature (WpFn 𝓤 H (𝓣 .C) (𝓣 .Λ) code.function) (depth-at.spec 𝓤 H A mem run)
-depth-at-meets 𝓤 H A W mem run 𝓣 known-new known-depth = walk-meets 𝓤 H A depth-at.ended stayed W (goes-none-slice 𝓤 H A W 1 (0 ∷ []) tt (plain (λ _. u8)) yes, (goes-none 𝓤 H A W 1 (λ _. u32) yes (λ κs x f. refl), (goes-none 𝓤 H A W 1 (λ _. u8) yes (λ κs x f. refl), (goes-none 𝓤 H A W 1 (λ _. u8) yes (λ κs x f. refl), tt)))) (depth-at.clauses 𝓤 H A mem run) (WpFn 𝓤 H (𝓣 .C) (𝓣 .Λ) code.function) (WpFn-mono 𝓤 H (W .laws) 𝓣 code.function)
-    (depth-at-walks 𝓤 H A W mem run (𝓣 .C) (𝓣 .Λ) (fmOf 𝓤 H (W .laws) 𝓣) known-new known-depth)
+    → Meets 𝓤 H A depth-in.signature (WpFn 𝓤 H (𝓣 .C) (𝓣 .Λ) code.function) (depth-in.spec 𝓤 H A mem run)
+depth-in-meets 𝓤 H A W mem run 𝓣 known-new known-depth = walk-meets 𝓤 H A depth-in.ended stayed W (goes-none-slice 𝓤 H A W 1 (0 ∷ []) tt (plain (λ _. u8)) yes, (goes-none 𝓤 H A W 1 (λ _. u32) yes (λ κs x f. refl), (goes-none 𝓤 H A W 1 (λ _. u8) yes (λ κs x f. refl), (goes-none 𝓤 H A W 1 (λ _. u8) yes (λ κs x f. refl), tt)))) (depth-in.clauses 𝓤 H A mem run) (WpFn 𝓤 H (𝓣 .C) (𝓣 .Λ) code.function) (WpFn-mono 𝓤 H (W .laws) 𝓣 code.function)
+    (depth-in-walks 𝓤 H A W mem run (𝓣 .C) (𝓣 .Λ) (fmOf 𝓤 H (W .laws) 𝓣) known-new known-depth)
 
-pub depth-at-spec : {M : Type 1} → stated.statement M
+pub depth-in-spec : {M : Type 1} → stated.statement M
 unfolding code.routine tablesOf
-depth-at-spec 𝓤 H 𝓜 𝓖 𝓡 =
-    entered 𝓤 H (tripleOf 𝓤 H (𝓖 .A) depth-at.signature (depth-at.spec 𝓤 H (𝓖 .A) (𝓜 .mem) (𝓡 .run)))
-    (tables 𝓤 H 𝓜 𝓡 code.env .C) (tables 𝓤 H 𝓜 𝓡 code.env .Λ) #rows·depth-at code.function (code.unfolded 𝓤 H 𝓜 𝓡)
-    (depth-at-meets 𝓤 H (𝓖 .A) (givenOf 𝓤 H 𝓜 𝓖) (𝓜 .mem) (𝓡 .run) (tablesOf 𝓤 H 𝓜 (tables 𝓤 H 𝓜 𝓡 code.env))
+depth-in-spec 𝓤 H 𝓜 𝓖 𝓡 =
+    entered 𝓤 H (tripleOf 𝓤 H (𝓖 .A) depth-in.signature (depth-in.spec 𝓤 H (𝓖 .A) (𝓜 .mem) (𝓡 .run)))
+    (tables 𝓤 H 𝓜 𝓡 code.env .C) (tables 𝓤 H 𝓜 𝓡 code.env .Λ) #rows·depth-in code.function (code.unfolded 𝓤 H 𝓜 𝓡)
+    (depth-in-meets 𝓤 H (𝓖 .A) (givenOf 𝓤 H 𝓜 𝓖) (𝓜 .mem) (𝓡 .run) (tablesOf 𝓤 H 𝓜 (tables 𝓤 H 𝓜 𝓡 code.env))
     (cited 𝓤 H (New 𝓤 H (𝓖 .A) (𝓜 .mem) (𝓡 .run)) 𝓜 𝓡 code.env #rows·new new-def.routine code.calls-rows·new (new-thm.met 𝓤 H 𝓜 𝓖 𝓡))
     (cited 𝓤 H (Depth 𝓤 H (𝓖 .A) (𝓜 .mem) (𝓡 .run)) 𝓜 𝓡 code.env #rows·depth depth-def.routine code.calls-rows·depth (depth-thm.met 𝓤 H 𝓜 𝓖 𝓡)))
