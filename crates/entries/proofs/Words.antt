@@ -1,6 +1,6 @@
 -- An entry is four bytes: what is read of the number that they make is what they are.
 use mathlib.Core.Path.{_≡_, refl, sym, _∙_}
-use mathlib.Core.Bool.{Bool, true, false, _&&_}
+use mathlib.Core.Bool.{Bool, true, false, _&&_, _||_}
 use Prim.Native.Nat.{ℕ, _+_, _*_, _/_, _%_, _<_}
 use native.Mathlib.Nat.{div-add-mod'}
 use native.Mathlib.Omega.{arith}
@@ -8,10 +8,10 @@ use lib.Dec.{eqb}
 use lib.Arith.{digits-div, digits-mod, mod-mul}
 use borrow.Author.Tests.{eqb-true, eq-eqb, ne-eqb}
 use Rattle.ground.proofs.Bools.{and-fst, and-snd, never}
-use Rattle.entries.specs.Entries.{Ref, zeros, pairOk, entryOf, dipOf, endOf, classOf, isInt, isTop, isBlank, isReference}
+use Rattle.entries.specs.Entries.{Ref, zeros, pairOk, nullableOk, entryOf, dipOf, endOf, classOf, isInt, isTop, isBlank, isReference, isNullable}
 use Rattle.entries.specs.Fits.{compare, want}
 use Rattle.entries.specs.Words.{entryFrom}
-use Rattle.entries.proofs.Types.{blank-bytes, int-bytes, top-bytes, reference-bytes, reference-is, fits-itself}
+use Rattle.entries.proofs.Types.{blank-bytes, int-bytes, top-bytes, reference-bytes, nullable-bytes, reference-is, nullable-is, fits-itself}
 
 module _ (n a b c d : ℕ) (la : a < 256) (lb : b < 256) (lc : c < 256) (ld : d < 256) where
   abbrev w : ℕ
@@ -89,6 +89,15 @@ pub reference-word : (n w : ℕ) → (eqb (w / 16777216) 3 && pairOk n (w / 6553
 unfolding entryFrom
 reference-word n w = reference-bytes n _ _ _ _
 
+-- THEOREM: .. and one that may be null by its kind, its class and zeros
+pub nullable-word : (n w : ℕ) → (eqb (w / 16777216) 4 && nullableOk n (w / 65536 % 256) (w / 256 % 256) (w % 256)) ≡ isNullable (entryFrom n w)
+unfolding entryFrom
+nullable-word n w = nullable-bytes n _ _ _ _
+
+pub nullable-class : (n w : ℕ) → isNullable (entryFrom n w) ≡ true → w / 65536 % 256 ≡ classOf (entryFrom n w)
+unfolding entryFrom
+nullable-class n w h = rw (nullable-is n _ _ _ _ h)
+
 module _ (n w : ℕ) (h : isReference (entryFrom n w) ≡ true) where
   word-is : entryFrom n w ≡ Ref (w / 65536 % 256) (w / 256 % 256) (w % 256)
   unfolding entryFrom
@@ -106,3 +115,11 @@ module _ (n w : ℕ) (h : isReference (entryFrom n w) ≡ true) where
 -- equal words fit
 pub same-word : (n w v : ℕ) → w ≡ v → 0 ≡ compare (entryFrom n w) (want (entryFrom n v))
 same-word n w v e = rw e (sym (fits-itself (entryFrom n v)))
+
+-- the class of a reference, null or not
+pub either-class : (n w : ℕ) → (isReference (entryFrom n w) || isNullable (entryFrom n w)) ≡ true → w / 65536 % 256 ≡ classOf (entryFrom n w)
+either-class n w h = go (isReference (entryFrom n w)) refl
+  where
+    go : (t : Bool) → isReference (entryFrom n w) ≡ t → w / 65536 % 256 ≡ classOf (entryFrom n w)
+    go true q = word-class n w q
+    go false q = nullable-class n w (rw q at h)

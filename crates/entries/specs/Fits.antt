@@ -3,15 +3,18 @@ use mathlib.Core.Bool.{Bool, true, cond, _&&_}
 use Prim.Native.Nat.{ℕ, _+_, _-_}
 use lib.Dec.{leb, eqb}
 use Rattle.ground.specs.Chain.{refuse}
-use Rattle.entries.specs.Entries.{Entry, noEnd, dipOf, endOf, kindOf, classOf, isTop, isType}
+use Rattle.entries.specs.Entries.{Entry, noEnd, dipOf, endOf, kindOf, classOf, isTop, isNullable, isType, mayBeOf}
 
--- may go: Int, Top, or a reference with e ≥ 0 (Int and Top weigh e = 0)
+-- may go: Int, Top, a reference that may be null, or a reference with e ≥ 0 (the others weigh e = 0)
 abbrev pub mayGo : Entry → Bool
 mayGo x = isType x && leb noEnd (endOf x)
 
--- Int fits Int or Top, Top fits Top, a reference fits one of the same class, or Top: y takes x, pairs aside. What is no type fits only its like, and no rule sees it, since 8 comes before 9
+-- Int fits Int or Top, Top fits Top, a reference fits one of the same class, or Top; one that may be null takes its class, null or not, and fits none that may not (document 02, Q-8): y takes x, pairs aside. What is no type fits only its like, and no rule sees it, since 8 comes before 9
 unfoldable pub takes : Entry → Entry → Bool
-takes y x = cond (isTop y) (isType x) (eqb (kindOf x) (kindOf y) && eqb (classOf x) (classOf y))
+takes y x =
+    cond (isTop y) (isType x)
+    (cond (isNullable y) (mayBeOf (classOf y) x)
+    (eqb (kindOf x) (kindOf y) && eqb (classOf x) (classOf y)))
 
 -- what a place wants of the entry that comes there: kind and class, and a pair that it must not fall short of
 pub record Want : Type 0 where

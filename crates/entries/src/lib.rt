@@ -4,7 +4,7 @@ ghost use mathlib.Core.Path.{_≡_};
 ghost use Prim.Native.Nat.{_+_, _-_, _≤_, _/_, _%_};
 ghost use lib.Dec.{leb};
 ghost use Rattle.ground.specs.Chain.{refuse};
-ghost use Rattle.entries.specs.Entries.{Int, Ref, pairOk, dipOf, endOf, kindOf, classOf, isInt, isTop, isReference, isBlank, isType, isOf, noEnd, argumentEntry, matches};
+ghost use Rattle.entries.specs.Entries.{Int, Ref, Nullable, pairOk, nullableOk, dipOf, endOf, kindOf, classOf, isInt, isTop, isReference, isNullable, isBlank, isType, isOf, mayBeOf, noEnd, argumentEntry, matches, fieldEntry, matchesField};
 ghost use Rattle.entries.specs.Fits.{mayGo, takes, compare, want, wantEntered, wantExited, wantBoth};
 ghost use Rattle.entries.specs.Words.{entryFrom};
 
@@ -53,10 +53,22 @@ fn pair_ok(n: u8, c: u8, d: u8, e: u8) -> bool
     (c < n) & (d <= MAX_DIP) & (MIN_END <= e) & (e <= MAX_END)
 }
 
+fn nullable_ok(n: u8, c: u8, d: u8, e: u8) -> bool
+    ensures { λ r. ⌜ r ≡ nullableOk n c d e ⌝ }
+{
+    (c < n) & (d == 0) & (e == 0)
+}
+
 pub fn is_reference(n: u8, w: u32) -> bool
     ensures { λ r. ⌜ r ≡ isReference (entryFrom n w) ⌝ }
 {
     (kind_in(w) == 3) & pair_ok(n, class_in(w), dip_in(w), end_in(w))
+}
+
+pub fn is_nullable(n: u8, w: u32) -> bool
+    ensures { λ r. ⌜ r ≡ isNullable (entryFrom n w) ⌝ }
+{
+    (kind_in(w) == 4) & nullable_ok(n, class_in(w), dip_in(w), end_in(w))
 }
 
 pub fn is_int(n: u8, w: u32) -> bool
@@ -81,7 +93,7 @@ pub fn is_blank(n: u8, w: u32) -> bool
 pub fn is_type(n: u8, w: u32) -> bool
     ensures { λ r. ⌜ r ≡ isType (entryFrom n w) ⌝ }
 {
-    is_int(n, w) | is_top(n, w) | is_reference(n, w)
+    is_int(n, w) | is_top(n, w) | is_reference(n, w) | is_nullable(n, w)
 }
 
 fn kind_of(n: u8, w: u32) -> u8
@@ -96,13 +108,20 @@ fn kind_of(n: u8, w: u32) -> u8
     if is_top(n, w) {
         return 2;
     }
-    if is_blank(n, w) { 0 } else { 4 }
+    if is_nullable(n, w) {
+        return 4;
+    }
+    if is_blank(n, w) { 0 } else { 5 }
 }
 
 fn class_of(n: u8, w: u32) -> u8
     ensures { λ r. ⌜ r ≡ classOf (entryFrom n w) ⌝ }
 {
-    if is_reference(n, w) { class_in(w) } else { 0 }
+    if is_reference(n, w) | is_nullable(n, w) {
+        class_in(w)
+    } else {
+        0
+    }
 }
 
 fn dip_of(n: u8, w: u32) -> u16
@@ -132,6 +151,13 @@ pub fn is_of(n: u8, c: u8, w: u32) -> bool
     is_reference(n, w) & (class_of(n, w) == c)
 }
 
+// .. or one that may be null.
+pub fn may_be_of(n: u8, c: u8, w: u32) -> bool
+    ensures { λ r. ⌜ r ≡ mayBeOf c (entryFrom n w) ⌝ }
+{
+    (is_reference(n, w) | is_nullable(n, w)) & (class_of(n, w) == c)
+}
+
 // An entry that matches a descriptor.
 pub fn matches(n: u8, descriptor: u8, w: u32) -> bool
     ensures { λ r. ⌜ r ≡ matches descriptor (entryFrom n w) ⌝ }
@@ -140,6 +166,16 @@ pub fn matches(n: u8, descriptor: u8, w: u32) -> bool
         return is_int(n, w);
     }
     is_of(n, descriptor, w)
+}
+
+// An entry that matches a field's descriptor.
+pub fn matches_field(n: u8, descriptor: u8, w: u32) -> bool
+    ensures { λ r. ⌜ r ≡ matchesField descriptor (entryFrom n w) ⌝ }
+{
+    if descriptor == INT {
+        return is_int(n, w);
+    }
+    may_be_of(n, descriptor, w)
 }
 
 pub fn may_go(n: u8, w: u32) -> bool
@@ -154,6 +190,9 @@ fn takes(n: u8, v: u32, w: u32) -> bool
 {
     if is_top(n, v) {
         return is_type(n, w);
+    }
+    if is_nullable(n, v) {
+        return may_be_of(n, class_of(n, v), w);
     }
     (kind_of(n, w) == kind_of(n, v)) & (class_of(n, w) == class_of(n, v))
 }
@@ -257,12 +296,45 @@ pub fn compare_made(n: u8, c: u8, v: u32) -> u8
     ensures { λ r. ⌜ r ≡ compare (Ref c 0 noEnd) (want (entryFrom n v)) ⌝ }
 {
     compared(
-        is_top(n, v) | is_of(n, c, v),
+        is_top(n, v) | may_be_of(n, c, v),
         0,
         64,
         dip_of(n, v),
         end_of(n, v),
     )
+}
+
+// monitorenter on a class that may be null, but wasn't: its class with (0,0) becomes v.
+pub fn compare_made_entered(n: u8, c: u8, v: u32) -> u8
+    ensures { λ r. ⌜ r ≡ compare (Ref c 0 noEnd) (wantEntered (entryFrom n v)) ⌝ }
+{
+    compared(
+        is_top(n, v) | may_be_of(n, c, v),
+        0,
+        64,
+        less(dip_of(n, v)),
+        end_of(n, v) + 1,
+    )
+}
+
+fn compare_nullable(n: u8, c: u8, v: u32) -> u8
+    ensures { λ r. ⌜ r ≡ compare (Nullable c) (want (entryFrom n v)) ⌝ }
+{
+    if is_top(n, v) | (is_nullable(n, v) & (class_of(n, v) == c)) {
+        0
+    } else {
+        1
+    }
+}
+
+// What a field holds, as its type, against v.
+pub fn compare_field(n: u8, descriptor: u8, v: u32) -> u8
+    ensures { λ r. ⌜ r ≡ compare (fieldEntry descriptor) (want (entryFrom n v)) ⌝ }
+{
+    if descriptor == INT {
+        return compare_int(n, v);
+    }
+    compare_nullable(n, descriptor, v)
 }
 
 // An argument as its type against v.

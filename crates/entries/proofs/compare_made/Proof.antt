@@ -7,8 +7,8 @@ use Rattle.entries.proofs.compare_made.Tie as tie
 is-top-requires : tie.Need-is-top-requires
 is-top-requires c κs = search needs
 
-is-of-requires : tie.Need-is-of-requires
-is-of-requires c κs = search needs
+may-be-of-requires : tie.Need-may-be-of-requires
+may-be-of-requires c κs = search needs
 
 dip-of-requires : tie.Need-dip-of-requires
 dip-of-requires c κs = search needs
@@ -21,15 +21,7 @@ compared-requires c κs = search needs
 
 returns : tie.Need-returns
 unfolding compare
-returns c = rw (← made-taken, ← c .before .before .before .before .is-top .ensures, ← c .before .before .before .is-of .ensures, ← c .before .before .dip-of .ensures .0, ← c .before .end-of .ensures .0) (c .compared .ensures)
+returns c = rw (← made-taken, ← c .before .before .before .before .is-top .ensures, ← c .before .before .before .may-be-of .ensures, ← c .before .before .dip-of .ensures .0, ← c .before .end-of .ensures .0) (c .compared .ensures)
 
 pub compare-made-spec : {M : Type 1} → statement M
-compare-made-spec =
-    tie.close
-    (tie.spec
-    is-top-requires
-    is-of-requires
-    dip-of-requires
-    end-of-requires
-    compared-requires
-    returns)
+compare-made-spec = tie.close (tie.spec is-top-requires may-be-of-requires dip-of-requires end-of-requires compared-requires returns)
