@@ -1,11 +1,12 @@
 // A value of the machine, and what the instructions do with one.
 ghost use mathlib.Core.Path.{_≡_};
 ghost use mathlib.Core.Bool.{not};
-ghost use Rattle.values.specs.Values.{incOf, isPos, zeroSlot, refSlot, numberOf, intSlot, bitsOf, bitsOfSlot, isInt, objectOf, incValue, incSlot, jumps, refers};
+ghost use Rattle.values.specs.Values.{incOf, isPos, zeroSlot, refSlot, nullSlot, numberOf, intSlot, bitsOf, bitsOfSlot, isInt, isNull, isRef, objectOf, incValue, incSlot, jumps, refers};
 
 pub enum Value {
     Int(i32),
     Ref(u8),
+    Null,
 }
 
 // A place that holds a value.
@@ -27,6 +28,12 @@ pub fn ref_slot(o: u8) -> Slot
     Slot {
         value: Value::Ref(o),
     }
+}
+
+pub fn null_slot() -> Slot
+    ensures { λ r. ⌜ r ≡ nullSlot ⌝ }
+{
+    Slot { value: Value::Null }
 }
 
 fn number(w: u32) -> i32
@@ -64,6 +71,7 @@ pub fn bits_of(x: Slot) -> u32
     match v {
         Value::Int(z) => bits(z),
         Value::Ref(_) => 0,
+        Value::Null => 0,
     }
 }
 
@@ -74,6 +82,29 @@ pub fn is_int(x: Slot) -> bool
     match v {
         Value::Int(_) => true,
         Value::Ref(_) => false,
+        Value::Null => false,
+    }
+}
+
+pub fn is_null(x: Slot) -> bool
+    ensures { λ r. ⌜ r ≡ isNull x ⌝ }
+{
+    let v = x.value;
+    match v {
+        Value::Int(_) => false,
+        Value::Ref(_) => false,
+        Value::Null => true,
+    }
+}
+
+pub fn is_ref(x: Slot) -> bool
+    ensures { λ r. ⌜ r ≡ isRef x ⌝ }
+{
+    let v = x.value;
+    match v {
+        Value::Int(_) => false,
+        Value::Ref(_) => true,
+        Value::Null => false,
     }
 }
 
@@ -84,6 +115,7 @@ pub fn object_of(x: Slot) -> u8
     match v {
         Value::Int(_) => 0,
         Value::Ref(o) => o,
+        Value::Null => 0,
     }
 }
 
@@ -100,6 +132,7 @@ fn inc_value(v: Value) -> Value
     match v {
         Value::Int(x) => Value::Int(inc(x)),
         Value::Ref(o) => Value::Ref(o),
+        Value::Null => Value::Null,
     }
 }
 
@@ -124,6 +157,7 @@ pub fn jumps(x: Slot) -> bool
     match v {
         Value::Int(z) => isnt_zero(z),
         Value::Ref(_) => false,
+        Value::Null => false,
     }
 }
 
@@ -134,5 +168,6 @@ pub fn refers(objects: u8, x: Slot) -> bool
     match v {
         Value::Int(_) => true,
         Value::Ref(o) => o < objects,
+        Value::Null => true,
     }
 }

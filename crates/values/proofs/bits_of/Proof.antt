@@ -16,6 +16,9 @@ bits-requires c κs = search needs
 enum-told : tie.Need-enum-told
 enum-told c = search needs
 
+enum-told-2 : tie.Need-enum-told-2
+enum-told-2 c = search needs
+
 returns : tie.Need-returns
 returns c =
     let z : ℤ = c .before .before .v .given .0 .0 in
@@ -25,5 +28,10 @@ returns c =
 returns-2 : tie.Need-returns-2
 returns-2 c = search needs
 
+returns-3 : tie.Need-returns-3
+returns-3 c = search needs
+
 pub bits-of-spec : {M : Type 1} → statement M
-bits-of-spec = tie.close (tie.spec enum-known-v bits-requires enum-told returns returns-2)
+bits-of-spec =
+    tie.close
+    (tie.spec enum-known-v bits-requires enum-told enum-told-2 returns returns-2 returns-3)

@@ -17,6 +17,9 @@ inc-requires c κs = search needs
 enum-known-v-2 : tie.Need-enum-known-v-2
 enum-known-v-2 c = search needs
 
+enum-told : tie.Need-enum-told
+enum-told c = search needs
+
 returns : tie.Need-returns
 returns c =
     let z : ℤ = c .before .before .v .given .0 .0 in
@@ -27,5 +30,10 @@ returns c =
 returns-2 : tie.Need-returns-2
 returns-2 c = rw (c .before .v2 .given .1)
 
+returns-3 : tie.Need-returns-3
+returns-3 c = search needs
+
 pub inc-value-spec : {M : Type 1} → statement M
-inc-value-spec = tie.close (tie.spec enum-known-v inc-requires enum-known-v-2 returns returns-2)
+inc-value-spec =
+    tie.close
+    (tie.spec enum-known-v inc-requires enum-known-v-2 enum-told returns returns-2 returns-3)

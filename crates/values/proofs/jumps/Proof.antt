@@ -17,6 +17,9 @@ isnt-zero-requires c κs = search needs
 enum-told : tie.Need-enum-told
 enum-told c = search needs
 
+enum-told-2 : tie.Need-enum-told-2
+enum-told-2 c = search needs
+
 returns : tie.Need-returns
 returns c =
     let z : ℤ = c .before .before .v .given .0 .0 in
@@ -26,5 +29,10 @@ returns c =
 returns-2 : tie.Need-returns-2
 returns-2 c = search needs
 
+returns-3 : tie.Need-returns-3
+returns-3 c = search needs
+
 pub jumps-spec : {M : Type 1} → statement M
-jumps-spec = tie.close (tie.spec enum-known-v isnt-zero-requires enum-told returns returns-2)
+jumps-spec =
+    tie.close
+    (tie.spec enum-known-v isnt-zero-requires enum-told enum-told-2 returns returns-2 returns-3)
