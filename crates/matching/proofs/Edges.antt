@@ -105,6 +105,15 @@ module _ (vars : ℕ) (x y : Row) where
   unfolding edgeShort passBut
   moved-edge v w = both-same (others-as v _ _ (λ i. named v w i (eqb i v) refl)) (rest-0-0 ∙ sym (nothing-then _))
 
+  -- monitorenter on a variable that is e instead
+  pub stored-moved-edge : (v : ℕ) (e : Entry) (w : Want) → edgeShort vars (edge (stored v e x) (wantsAt v w y)) ≡ passBut vars v (compare e w) 0 0 0 x y
+  unfolding edgeShort passBut
+  stored-moved-edge v e w = both-same (others-as v _ _ (λ i. go i (eqb i v))) (rest-0-0 ∙ sym (nothing-then _))
+    where
+      go : (i : ℕ) (t : Bool) → compare (cond t e (x .variable i)) (cond t w (want (y .variable i))) ≡ cond t (compare e w) (varShort x y i)
+      go i true = refl
+      go i false = refl
+
   -- a reference's load
   abbrev wantsSplit : ℕ → Wants
   wantsSplit v =

@@ -1,7 +1,7 @@
 // Two rows of one record held against each other, each given by where it begins: the comparisons along an edge, in their order; and may go.
 ghost use mathlib.Core.Path.{_≡_};
 ghost use Prim.Native.Nat.{_+_, _-_, _≤_};
-ghost use Rattle.entries.specs.Entries.{Int, Ref, noEnd};
+ghost use Rattle.entries.specs.Entries.{Int, Ref, noEnd, fieldEntry};
 ghost use Rattle.entries.specs.Fits.{compare, want, wantEntered, wantExited};
 ghost use Rattle.entries.specs.Words.{entryFrom};
 ghost use Rattle.rows.specs.Rows.{depthAt, rowFrom};
@@ -176,6 +176,14 @@ pub fn made_edge(n: u8, k: Class, r: &[u8], c: u8, p: u32, q: u32) -> u8
     pass(n, k, r, 0, 1, t, p, q)
 }
 
+// .. with what a field of this descriptor holds in the top's stead.
+pub fn field_edge(n: u8, k: Class, r: &[u8], descriptor: u8, p: u32, q: u32) -> u8
+    ensures { λ o. ⌜ o ≡ edgeShort (k .vars) (edge (pushed (fieldEntry descriptor) (popped 1 (rowFrom n k (now (r .entry)) p))) (wants (rowFrom n k (now (r .entry)) q))) ⌝ }
+{
+    let t = entries::compare_field(n, descriptor, rows::stack_word(n, k, r, q, 0));
+    pass(n, k, r, 1, 1, t, p, q)
+}
+
 // .. with the top in variable v.
 pub fn stored_edge(n: u8, k: Class, r: &[u8], v: u8, p: u32, q: u32) -> u8
     ensures { λ o. ⌜ o ≡ edgeShort (k .vars) (edge (popped 1 (stored v ((rowFrom n k (now (r .entry)) p) .stack 0) (rowFrom n k (now (r .entry)) p))) (wants (rowFrom n k (now (r .entry)) q))) ⌝ }
@@ -210,6 +218,14 @@ pub fn entered_edge(n: u8, k: Class, r: &[u8], v: u8, p: u32, q: u32) -> u8
         rows::variable_word(n, k, r, p, v),
         rows::variable_word(n, k, r, q, v),
     );
+    pass_but(n, k, r, v, w, 0, 0, 0, p, q)
+}
+
+// .. where v may have been null: from class c with (0,0).
+pub fn made_entered_edge(n: u8, k: Class, r: &[u8], c: u8, v: u8, p: u32, q: u32) -> u8
+    ensures { λ o. ⌜ o ≡ edgeShort (k .vars) (edge (stored v (Ref c 0 noEnd) (rowFrom n k (now (r .entry)) p)) (wantsAt v (wantEntered ((rowFrom n k (now (r .entry)) q) .variable v)) (rowFrom n k (now (r .entry)) q))) ⌝ }
+{
+    let w = entries::compare_made_entered(n, c, rows::variable_word(n, k, r, q, v));
     pass_but(n, k, r, v, w, 0, 0, 0, p, q)
 }
 
