@@ -1,24 +1,28 @@
-// The machine's state: eight thread numbers, 32 objects, one count for each thread and each object.
+// The machine's state: eight thread numbers, 32 objects, one count for each thread and each object, four field places for each object.
 ghost use mathlib.Core.Path.{_≡_};
-ghost use Rattle.state.specs.State.{threadAt, countOf, withThread, withCount, withObject, emptyState, freeOf, othersFree, isFree, holdsNothing, lowestFree};
+ghost use Rattle.state.specs.State.{threadAt, countOf, withThread, withCount, withField, withObject, emptyState, freeOf, othersFree, isFree, holdsNothing, lowestFree};
 use threads::Thread;
+use values::Slot;
 
 pub struct State {
     pub threads: [Thread; 8],
     pub counts: [u16; 256],
     pub objects: u8,
     pub classes: [u8; 32],
+    pub fields: [Slot; 128],
 }
 
 pub fn empty_state() -> State
     ensures { λ r. ⌜ r ≡ emptyState ⌝ }
 {
     let t = threads::idle();
+    let z = values::zero_slot();
     State {
         threads: [t; 8],
         counts: [0u16; 256],
         objects: 0,
         classes: [0u8; 32],
+        fields: [z; 128],
     }
 }
 
@@ -60,14 +64,31 @@ pub fn put_count(s: State, i: u8, o: u8, n: u16) -> State
     next
 }
 
-pub fn add_object(s: State, c: u8) -> State
-    ensures { λ r. ⌜ r ≡ withObject s c ⌝ }
+pub fn put_field(s: State, o: u8, f: u8, x: Slot) -> State
+    ensures { λ r. ⌜ r ≡ withField s o f x ⌝ }
+{
+    let mut next = s;
+    let k = (o as usize) * 4 + (f as usize);
+    if k < 128 {
+        next.fields[k] = x;
+        return next;
+    }
+    next
+}
+
+// `first` is what the object's four field places hold.
+pub fn add_object(s: State, c: u8, first: [Slot; 4]) -> State
+    ensures { λ r. ⌜ r ≡ withObject s c first ⌝ }
 {
     let mut next = s;
     let o = s.objects;
     let k = o as usize;
     if o < 32 {
         next.classes[k] = c;
+        next.fields[k * 4] = first[0];
+        next.fields[k * 4 + 1] = first[1];
+        next.fields[k * 4 + 2] = first[2];
+        next.fields[k * 4 + 3] = first[3];
         next.objects = o + 1;
         return next;
     }
