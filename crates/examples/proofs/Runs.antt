@@ -19,14 +19,15 @@ use Rattle.verifier.specs.Verdict.{formAt, formsOf, formsOfClass, formsOfAll, r
 use Rattle.threads.specs.Threads.{topped, pushed, popped, stored, ended, started}
 use Rattle.state.specs.State.{withObject, othersFree, holdsNothing, lowestFree}
 use Rattle.belongs.specs.Belongs.{placesRefer, placedOk, liveOk, threadOk, threadsOk, firstOk, objectsOk, countOk, threadCountsOk, countsOk, soleHolder, soleHolders, stateOk}
-use Rattle.machine.specs.Instructions.{incStep, popStep, push0Step, loadStep, storeStep, ifStep, enterObject, enterStep, exitObject, exitStep, endStep, throwStep, athrowStep, makeStep, newStep, isArgument, argumentsOk, startedBy, startStep}
+use Rattle.machine.specs.Answers.{unlessDrawn}
+use Rattle.machine.specs.Faults.{isArgument, argumentsOk}
 use Rattle.machine.specs.Machine.{freshOf, runOf, stepOf}
 use Rattle.examples.specs.Runs.{answersFrom, answers, Run, runs}
 
 pub accepted : map (λ (r : Run). verdictOf (r .bundle) .number) runs ≡ 0 ∷ 0 ∷ 0 ∷ 0 ∷ 0 ∷ []
-unfolding allBelow firstBelow countBelow setBelow fillFrom refuse orThen scan zeroed instructionOf targetOk lastOk instructionOk headAt classAt width size recordFits partOf codeFrom instructionPlace codeAt instructionAt methodOf methodAt programOf lengthOk trailerOk directoryOk mainOk codeOk limitsOk descriptorOk descriptorsOk addressOk headOf shapeOf shapeAt shapesOf layoutOf tableAt tableOf tableOfClass tablesOf structureOf zeros pairOk entryOf argumentEntry matches takes compare startBehind rowStart depthAt entryAt variableAt stackAt wantsLoaded edgeShort varsGo stackGoes entryFormed varsFormed stackFormed rowFormed firstVar firstVars firstRow incRule popRule push0Rule loadRule storeRule ifRule enterRule exitRule uncaughtGoes thrown throwRule newRule argumentGoes objectGoes argumentsGo startRule returnRule met shortOf holds why formAt formsOf formsOfClass formsOfAll ruleVerdict rulesOf rulesOfClass rulesOfAll verdictOf topped pushed popped stored ended started withObject othersFree holdsNothing lowestFree placesRefer placedOk liveOk threadOk threadsOk firstOk objectsOk countOk threadCountsOk countsOk soleHolder soleHolders stateOk incStep popStep push0Step loadStep storeStep ifStep enterObject enterStep exitObject exitStep endStep throwStep athrowStep makeStep newStep isArgument argumentsOk startedBy startStep freshOf runOf stepOf
+unfolding allBelow firstBelow countBelow setBelow fillFrom refuse orThen scan zeroed instructionOf targetOk lastOk instructionOk headAt classAt width size recordFits partOf codeFrom instructionPlace codeAt instructionAt methodOf methodAt programOf lengthOk trailerOk directoryOk mainOk codeOk limitsOk descriptorOk descriptorsOk addressOk headOf shapeOf shapeAt shapesOf layoutOf tableAt tableOf tableOfClass tablesOf structureOf zeros pairOk entryOf argumentEntry matches takes compare startBehind rowStart depthAt entryAt variableAt stackAt wantsLoaded edgeShort varsGo stackGoes entryFormed varsFormed stackFormed rowFormed firstVar firstVars firstRow incRule popRule push0Rule loadRule storeRule ifRule enterRule exitRule uncaughtGoes thrown throwRule newRule argumentGoes objectGoes argumentsGo startRule returnRule met shortOf holds why formAt formsOf formsOfClass formsOfAll ruleVerdict rulesOf rulesOfClass rulesOfAll verdictOf topped pushed popped stored ended started withObject othersFree holdsNothing lowestFree placesRefer placedOk liveOk threadOk threadsOk firstOk objectsOk countOk threadCountsOk countsOk soleHolder soleHolders stateOk unlessDrawn isArgument argumentsOk freshOf runOf stepOf
 accepted = refl
 
 pub answered : map (λ (r : Run). answers (r .bundle) (r .schedule)) runs ≡ map (λ (r : Run). r .wanted) runs
-unfolding answersFrom allBelow firstBelow countBelow setBelow fillFrom refuse orThen scan zeroed instructionOf targetOk lastOk instructionOk headAt classAt width size recordFits partOf codeFrom instructionPlace codeAt instructionAt methodOf methodAt programOf lengthOk trailerOk directoryOk mainOk codeOk limitsOk descriptorOk descriptorsOk addressOk headOf shapeOf shapeAt shapesOf layoutOf tableAt tableOf tableOfClass tablesOf structureOf zeros pairOk entryOf argumentEntry matches takes compare startBehind rowStart depthAt entryAt variableAt stackAt wantsLoaded edgeShort varsGo stackGoes entryFormed varsFormed stackFormed rowFormed firstVar firstVars firstRow incRule popRule push0Rule loadRule storeRule ifRule enterRule exitRule uncaughtGoes thrown throwRule newRule argumentGoes objectGoes argumentsGo startRule returnRule met shortOf holds why formAt formsOf formsOfClass formsOfAll ruleVerdict rulesOf rulesOfClass rulesOfAll verdictOf topped pushed popped stored ended started withObject othersFree holdsNothing lowestFree placesRefer placedOk liveOk threadOk threadsOk firstOk objectsOk countOk threadCountsOk countsOk soleHolder soleHolders stateOk incStep popStep push0Step loadStep storeStep ifStep enterObject enterStep exitObject exitStep endStep throwStep athrowStep makeStep newStep isArgument argumentsOk startedBy startStep freshOf runOf stepOf
+unfolding answersFrom allBelow firstBelow countBelow setBelow fillFrom refuse orThen scan zeroed instructionOf targetOk lastOk instructionOk headAt classAt width size recordFits partOf codeFrom instructionPlace codeAt instructionAt methodOf methodAt programOf lengthOk trailerOk directoryOk mainOk codeOk limitsOk descriptorOk descriptorsOk addressOk headOf shapeOf shapeAt shapesOf layoutOf tableAt tableOf tableOfClass tablesOf structureOf zeros pairOk entryOf argumentEntry matches takes compare startBehind rowStart depthAt entryAt variableAt stackAt wantsLoaded edgeShort varsGo stackGoes entryFormed varsFormed stackFormed rowFormed firstVar firstVars firstRow incRule popRule push0Rule loadRule storeRule ifRule enterRule exitRule uncaughtGoes thrown throwRule newRule argumentGoes objectGoes argumentsGo startRule returnRule met shortOf holds why formAt formsOf formsOfClass formsOfAll ruleVerdict rulesOf rulesOfClass rulesOfAll verdictOf topped pushed popped stored ended started withObject othersFree holdsNothing lowestFree placesRefer placedOk liveOk threadOk threadsOk firstOk objectsOk countOk threadCountsOk countsOk soleHolder soleHolders stateOk unlessDrawn isArgument argumentsOk freshOf runOf stepOf
 answered = refl

@@ -21,20 +21,21 @@ use Rattle.verifier.specs.Verdict.{formAt, formsOf, formsOfClass, formsOfAll, r
 use Rattle.threads.specs.Threads.{topped, pushed, popped, stored, ended, started}
 use Rattle.state.specs.State.{withObject, othersFree, holdsNothing, lowestFree}
 use Rattle.belongs.specs.Belongs.{placesRefer, placedOk, liveOk, threadOk, threadsOk, firstOk, objectsOk, countOk, threadCountsOk, countsOk, soleHolder, soleHolders, stateOk}
-use Rattle.machine.specs.Instructions.{incStep, popStep, push0Step, loadStep, storeStep, ifStep, enterObject, enterStep, exitObject, exitStep, endStep, throwStep, athrowStep, makeStep, newStep, isArgument, argumentsOk, startedBy, startStep}
+use Rattle.machine.specs.Answers.{unlessDrawn}
+use Rattle.machine.specs.Faults.{isArgument, argumentsOk}
 use Rattle.machine.specs.Machine.{freshOf, runOf, stepOf}
 use Rattle.examples.specs.Runs.{answersFrom, answers}
 use Rattle.examples.specs.Slips.{Slip, slips}
 
 -- document 01 refuses each at the address, the weakened rule lets it through there, and the schedule ends in a fault
 pub refused : map (λ (s : Slip). verdictOf (s .bundle)) slips ≡ map (λ (s : Slip). ruleFails 0 (s .address) (s .why)) slips
-unfolding allBelow firstBelow countBelow setBelow fillFrom refuse orThen scan zeroed instructionOf targetOk lastOk instructionOk headAt classAt width size recordFits partOf codeFrom instructionPlace codeAt instructionAt methodOf methodAt programOf lengthOk trailerOk directoryOk mainOk codeOk limitsOk descriptorOk descriptorsOk addressOk headOf shapeOf shapeAt shapesOf layoutOf tableAt tableOf tableOfClass tablesOf structureOf zeros pairOk entryOf argumentEntry matches takes compare startBehind rowStart depthAt entryAt variableAt stackAt wantsLoaded edgeShort varsGo stackGoes entryFormed varsFormed stackFormed rowFormed firstVar firstVars firstRow incRule popRule push0Rule loadRule storeRule ifRule enterRule exitRule uncaughtGoes thrown throwRule newRule argumentGoes objectGoes argumentsGo startRule returnRule met shortOf holds why formAt formsOf formsOfClass formsOfAll ruleVerdict rulesOf rulesOfClass rulesOfAll verdictOf topped pushed popped stored ended started withObject othersFree holdsNothing lowestFree placesRefer placedOk liveOk threadOk threadsOk firstOk objectsOk countOk threadCountsOk countsOk soleHolder soleHolders stateOk incStep popStep push0Step loadStep storeStep ifStep enterObject enterStep exitObject exitStep endStep throwStep athrowStep makeStep newStep isArgument argumentsOk startedBy startStep freshOf runOf stepOf
+unfolding allBelow firstBelow countBelow setBelow fillFrom refuse orThen scan zeroed instructionOf targetOk lastOk instructionOk headAt classAt width size recordFits partOf codeFrom instructionPlace codeAt instructionAt methodOf methodAt programOf lengthOk trailerOk directoryOk mainOk codeOk limitsOk descriptorOk descriptorsOk addressOk headOf shapeOf shapeAt shapesOf layoutOf tableAt tableOf tableOfClass tablesOf structureOf zeros pairOk entryOf argumentEntry matches takes compare startBehind rowStart depthAt entryAt variableAt stackAt wantsLoaded edgeShort varsGo stackGoes entryFormed varsFormed stackFormed rowFormed firstVar firstVars firstRow incRule popRule push0Rule loadRule storeRule ifRule enterRule exitRule uncaughtGoes thrown throwRule newRule argumentGoes objectGoes argumentsGo startRule returnRule met shortOf holds why formAt formsOf formsOfClass formsOfAll ruleVerdict rulesOf rulesOfClass rulesOfAll verdictOf topped pushed popped stored ended started withObject othersFree holdsNothing lowestFree placesRefer placedOk liveOk threadOk threadsOk firstOk objectsOk countOk threadCountsOk countsOk soleHolder soleHolders stateOk unlessDrawn isArgument argumentsOk freshOf runOf stepOf
 refused = refl
 
 pub let-through : map (λ (s : Slip). s .weakened) slips ≡ true ∷ true ∷ true ∷ true ∷ true ∷ true ∷ true ∷ true ∷ true ∷ true ∷ true ∷ true ∷ true ∷ true ∷ true ∷ true ∷ []
-unfolding allBelow firstBelow countBelow setBelow fillFrom refuse orThen scan zeroed instructionOf targetOk lastOk instructionOk headAt classAt width size recordFits partOf codeFrom instructionPlace codeAt instructionAt methodOf methodAt programOf lengthOk trailerOk directoryOk mainOk codeOk limitsOk descriptorOk descriptorsOk addressOk headOf shapeOf shapeAt shapesOf layoutOf tableAt tableOf tableOfClass tablesOf structureOf zeros pairOk entryOf argumentEntry matches takes compare startBehind rowStart depthAt entryAt variableAt stackAt wantsLoaded edgeShort varsGo stackGoes entryFormed varsFormed stackFormed rowFormed firstVar firstVars firstRow incRule popRule push0Rule loadRule storeRule ifRule enterRule exitRule uncaughtGoes thrown throwRule newRule argumentGoes objectGoes argumentsGo startRule returnRule met shortOf holds why formAt formsOf formsOfClass formsOfAll ruleVerdict rulesOf rulesOfClass rulesOfAll verdictOf topped pushed popped stored ended started withObject othersFree holdsNothing lowestFree placesRefer placedOk liveOk threadOk threadsOk firstOk objectsOk countOk threadCountsOk countsOk soleHolder soleHolders stateOk incStep popStep push0Step loadStep storeStep ifStep enterObject enterStep exitObject exitStep endStep throwStep athrowStep makeStep newStep isArgument argumentsOk startedBy startStep freshOf runOf stepOf
+unfolding allBelow firstBelow countBelow setBelow fillFrom refuse orThen scan zeroed instructionOf targetOk lastOk instructionOk headAt classAt width size recordFits partOf codeFrom instructionPlace codeAt instructionAt methodOf methodAt programOf lengthOk trailerOk directoryOk mainOk codeOk limitsOk descriptorOk descriptorsOk addressOk headOf shapeOf shapeAt shapesOf layoutOf tableAt tableOf tableOfClass tablesOf structureOf zeros pairOk entryOf argumentEntry matches takes compare startBehind rowStart depthAt entryAt variableAt stackAt wantsLoaded edgeShort varsGo stackGoes entryFormed varsFormed stackFormed rowFormed firstVar firstVars firstRow incRule popRule push0Rule loadRule storeRule ifRule enterRule exitRule uncaughtGoes thrown throwRule newRule argumentGoes objectGoes argumentsGo startRule returnRule met shortOf holds why formAt formsOf formsOfClass formsOfAll ruleVerdict rulesOf rulesOfClass rulesOfAll verdictOf topped pushed popped stored ended started withObject othersFree holdsNothing lowestFree placesRefer placedOk liveOk threadOk threadsOk firstOk objectsOk countOk threadCountsOk countsOk soleHolder soleHolders stateOk unlessDrawn isArgument argumentsOk freshOf runOf stepOf
 let-through = refl
 
 pub faults : map (λ (s : Slip). answers (s .bundle) (s .schedule)) slips ≡ map (λ (s : Slip). s .wanted) slips
-unfolding answersFrom allBelow firstBelow countBelow setBelow fillFrom refuse orThen scan zeroed instructionOf targetOk lastOk instructionOk headAt classAt width size recordFits partOf codeFrom instructionPlace codeAt instructionAt methodOf methodAt programOf lengthOk trailerOk directoryOk mainOk codeOk limitsOk descriptorOk descriptorsOk addressOk headOf shapeOf shapeAt shapesOf layoutOf tableAt tableOf tableOfClass tablesOf structureOf zeros pairOk entryOf argumentEntry matches takes compare startBehind rowStart depthAt entryAt variableAt stackAt wantsLoaded edgeShort varsGo stackGoes entryFormed varsFormed stackFormed rowFormed firstVar firstVars firstRow incRule popRule push0Rule loadRule storeRule ifRule enterRule exitRule uncaughtGoes thrown throwRule newRule argumentGoes objectGoes argumentsGo startRule returnRule met shortOf holds why formAt formsOf formsOfClass formsOfAll ruleVerdict rulesOf rulesOfClass rulesOfAll verdictOf topped pushed popped stored ended started withObject othersFree holdsNothing lowestFree placesRefer placedOk liveOk threadOk threadsOk firstOk objectsOk countOk threadCountsOk countsOk soleHolder soleHolders stateOk incStep popStep push0Step loadStep storeStep ifStep enterObject enterStep exitObject exitStep endStep throwStep athrowStep makeStep newStep isArgument argumentsOk startedBy startStep freshOf runOf stepOf
+unfolding answersFrom allBelow firstBelow countBelow setBelow fillFrom refuse orThen scan zeroed instructionOf targetOk lastOk instructionOk headAt classAt width size recordFits partOf codeFrom instructionPlace codeAt instructionAt methodOf methodAt programOf lengthOk trailerOk directoryOk mainOk codeOk limitsOk descriptorOk descriptorsOk addressOk headOf shapeOf shapeAt shapesOf layoutOf tableAt tableOf tableOfClass tablesOf structureOf zeros pairOk entryOf argumentEntry matches takes compare startBehind rowStart depthAt entryAt variableAt stackAt wantsLoaded edgeShort varsGo stackGoes entryFormed varsFormed stackFormed rowFormed firstVar firstVars firstRow incRule popRule push0Rule loadRule storeRule ifRule enterRule exitRule uncaughtGoes thrown throwRule newRule argumentGoes objectGoes argumentsGo startRule returnRule met shortOf holds why formAt formsOf formsOfClass formsOfAll ruleVerdict rulesOf rulesOfClass rulesOfAll verdictOf topped pushed popped stored ended started withObject othersFree holdsNothing lowestFree placesRefer placedOk liveOk threadOk threadsOk firstOk objectsOk countOk threadCountsOk countsOk soleHolder soleHolders stateOk unlessDrawn isArgument argumentsOk freshOf runOf stepOf
 faults = refl

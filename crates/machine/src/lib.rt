@@ -22,12 +22,6 @@ pub struct Stepped {
     pub answer: u8,
 }
 
-// A step that leaves all but its thread alone: how the thread goes on, and the answer.
-struct Turn {
-    thread: Thread,
-    answer: u8,
-}
-
 fn main_thread() -> Thread
     ensures { λ r. ⌜ r ≡ mainThread ⌝ }
 {
@@ -94,7 +88,7 @@ fn run(b: &[u8], s: State, i: u8, fails: bool) -> Stepped
             k.vars,
             h,
         ),
-        Instruction::Return => moves::settle(s, i, ends::end_turn(&s.counts, i, t, k.vars, 1)),
+        Instruction::Return => ends::return_step(s, i, t, k.vars),
         Instruction::Nothing => Stepped {
             answer: 17,
             state: s,

@@ -1,35 +1,24 @@
 // How a thread goes on.
 ghost use mathlib.Core.Path.{_≡_};
-ghost use Rattle.machine.specs.Answers.{wentTo, settled};
+ghost use Prim.Native.Nat.{_<_};
+ghost use Rattle.machine.specs.Moves.{wentTo, wentOn};
 use crate::Stepped;
-use crate::Turn;
 use instructions::Addr;
 use state::State;
 use threads::Thread;
 
-pub(crate) fn went_to(s: State, i: u8, t: Thread, a: Addr) -> Stepped
-    ensures { λ r. ⌜ r ≡ wentTo s i t (a .0) ⌝ }
+pub(crate) fn went_to(s: State, i: u8, u: Thread, a: Addr) -> Stepped
+    ensures { λ r. ⌜ r ≡ wentTo s i u (a .0) ⌝ }
 {
-    let u = threads::go(t, a);
     Stepped {
         answer: 0,
-        state: state::put_thread(s, i, u),
+        state: state::put_thread(s, i, threads::go(u, a)),
     }
 }
 
-pub(crate) fn settle(s: State, i: u8, w: Turn) -> Stepped
-    ensures { λ r. ⌜ r ≡ settled s i w ⌝ }
+pub(crate) fn went_on(s: State, i: u8, here: Addr, u: Thread) -> Stepped
+    requires { ⌜ here .0 < 65535 ⌝ }
+    ensures { λ r. ⌜ r ≡ wentOn s i here u ⌝ }
 {
-    let n = w.answer;
-    if 3 <= n {
-        return Stepped {
-            answer: n,
-            state: s,
-        };
-    }
-    let t = w.thread;
-    Stepped {
-        answer: n,
-        state: state::put_thread(s, i, t),
-    }
+    went_to(s, i, u, Addr(here.0 + 1))
 }

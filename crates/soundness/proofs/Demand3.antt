@@ -7,7 +7,7 @@ use native.Mathlib.Omega.{arith}
 use lib.Dec.{ltb}
 use borrow.Author.Tests.{ltb-true, eq-eqb}
 use Rattle.ground.specs.Chain.{refuse}
-use Rattle.ground.proofs.Bools.{and-fst, and-snd}
+use Rattle.ground.proofs.Bools.{and-fst, and-snd, never}
 use Rattle.bundle.specs.Program.{Program, programOf}
 use Rattle.structure.specs.Structure.{structureOf}
 use Rattle.rows.specs.Rows.{Row}
@@ -17,10 +17,11 @@ use Rattle.state.specs.declared.State.{State}
 use Rattle.state.specs.State.{threadAt}
 use Rattle.machine.specs.Machine.{readable, freshOf, stepOf}
 use Rattle.machine.specs.Runs.{Step, answer, after, run, reached}
+use Rattle.machine.proofs.Refusals.{refuses}
 use Rattle.soundness.specs.Sound.{Safe, Sound, Demand3}
 use Rattle.soundness.proofs.Verified.{rowsOf, accepted}
 use Rattle.soundness.proofs.Invariant.{Inv, bounded, state-ok}
-use Rattle.soundness.proofs.Moves.{Good, passes, either}
+use Rattle.soundness.proofs.Moves.{Good, given}
 use Rattle.soundness.proofs.Fresh.{inv-fresh}
 use Rattle.soundness.proofs.Steps.{run-good, exit-held}
 
@@ -38,9 +39,9 @@ module _ (b : List ℕ) (e : verdictOf b .number ≡ 0) where
   pub step-good : (s : State) → Inv P R s → (i : ℕ) (fails : Bool) → Good P R s i (stepOf b s i fails)
   unfolding stepOf
   step-good s inv i fails =
-      passes P R s i (readable b) 17 _ can-read
-      (passes P R s i _ 18 _ (state-ok P R (accepted b e) s inv)
-      (either P R s i (ltb i 8 && threadAt s i .live) 5 _ (omega arith) (omega arith) inv
+      refuses (Good P R s i) s (readable b) 17 _ (λ f. never can-read f)
+      (λ _. refuses (Good P R s i) s _ 18 _ (λ f. never (state-ok P R (accepted b e) s inv) f)
+      (λ _. refuses (Good P R s i) s (ltb i 8 && threadAt s i .live) 5 _ (λ _. given P R s i 5 (omega arith) (omega arith) inv)
       (λ f. run-good P R (accepted b e) s inv i (ltb-true i 8 (and-fst (ltb i 8) _ f)) (and-snd (ltb i 8) _ f) fails)))
 
   -- THEOREM: every step keeps the invariant

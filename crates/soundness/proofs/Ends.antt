@@ -9,6 +9,7 @@ use lib.Dec.{leb, eqb}
 use borrow.Author.Tests.{leb-true, le-leb, eqb-false, eq-eqb}
 use Rattle.ground.proofs.Bools.{and-fst, and-snd}
 use Rattle.ground.proofs.Bounded.{all-elim, all-intro}
+use Rattle.ground.proofs.Chain.{went-on}
 use Rattle.ground.proofs.Writes.{fill-length}
 use Rattle.instructions.specs.declared.Addr.{Addr}
 use Rattle.bundle.specs.Program.{Program}
@@ -25,8 +26,9 @@ use Rattle.threads.specs.declared.Thread.{Thread}
 use Rattle.threads.specs.Threads.{topOf, popped, ended}
 use Rattle.state.specs.declared.State.{State}
 use Rattle.state.specs.State.{threadAt, countOf, classOf, isFree, holdsNothing}
-use Rattle.machine.specs.Answers.{unless, wentTo}
-use Rattle.machine.specs.Instructions.{endStep, caught, throwStep, athrowStep}
+use Rattle.machine.specs.Answers.{test}
+use Rattle.machine.specs.Faults.{endFault, throwFault, athrowFault}
+use Rattle.machine.specs.Moves.{wentTo, endMove, caught, throwMove}
 use Rattle.soundness.proofs.Balance.{all-go}
 use Rattle.soundness.proofs.Kind.{object-is}
 use Rattle.soundness.proofs.Held.{AllFit, held}
@@ -36,7 +38,7 @@ use Rattle.soundness.proofs.Values.{valueOf, pushed-is}
 use Rattle.soundness.proofs.Accepted.{Address, Accepted}
 use Rattle.soundness.proofs.Stands.{Stands, entry-kind, pop-stands, push-stands, throw-stands}
 use Rattle.soundness.proofs.Invariant.{entryAt, Asleep, Inv}
-use Rattle.soundness.proofs.Moves.{others, asleep-standing, thread-moves, Good, passes, branches}
+use Rattle.soundness.proofs.Moves.{others, asleep-standing, thread-moves, Fine, branches}
 use Rattle.soundness.proofs.Goes.{v16, d16, at-here, goes-to}
 
 module _ (P : Program) (R : ℕ → ℕ → Row) (A : Accepted P R) (s : State) (inv : Inv P R s) (i : ℕ) (li : i < 8) (lv : threadAt s i .live ≡ true) where
@@ -84,54 +86,58 @@ module _ (P : Program) (R : ℕ → ℕ → Row) (A : Accepted P R) (s : State) 
       }
 
   -- the thread ends with the answer n
-  end-good : (n : ℕ) → n ≤ 2 → varsGo vars here ≡ true → stackGoes here ≡ true → Good P R s i (endStep s i T vars n)
-  unfolding endStep holdsNothing ended
-  end-good n l vg sg =
-      passes P R s i _ 15 _ (all-intro (isFree (s .counts) i) 32 (λ o k. eq-eqb (cnt o) 0 (free vg sg o k)))
-      (record {
-        quiet = omega arith;
-        inv = thread-moves P R s i li (others P R s inv i) (ended vars T) (asleep-standing P R (s .objects) cls cnt (ended vars T) refl (asleep (free vg sg)));
-        ends = λ _ o k. (free vg sg o k, free vg sg o k);
-      })
+  end-fine : (n : ℕ) → n ≤ 2 → varsGo vars here ≡ true → stackGoes here ≡ true → Fine P R s i (endFault (s .counts) i) 0 (endMove s i T vars n)
+  unfolding holdsNothing ended
+  end-fine n l vg sg =
+      record {
+        no-fault = went-on _ _ (all-intro (isFree (s .counts) i) 32 (λ o k. eq-eqb (cnt o) 0 (free vg sg o k)));
+        good = λ _. record {
+          quiet = omega arith;
+          inv = thread-moves P R s i li (others P R s inv i) (ended vars T) (asleep-standing P R (s .objects) cls cnt (ended vars T) refl (asleep (free vg sg)));
+          ends = λ _ o k. (free vg sg o k, free vg sg o k);
+        };
+      }
 
-  pub return-good : holds vars (returnRule vars here) ≡ true → Good P R s i (endStep s i T vars 1)
+  pub return-fine : holds vars (returnRule vars here) ≡ true → Fine P R s i (endFault (s .counts) i) 0 (endMove s i T vars 1)
   unfolding returnRule
-  return-good e =
+  return-fine e =
       let a = held vars (returnRule vars here) e .0 in
-      end-good 1 (omega arith) (and-snd (stackGoes here) (varsGo vars here) a) (and-fst (stackGoes here) (varsGo vars here) a)
+      end-fine 1 (omega arith) (and-snd (stackGoes here) (varsGo vars here) a) (and-fst (stackGoes here) (varsGo vars here) a)
 
   -- the entry e is thrown, as the value x: what goes uncaught, and the edge to the handler
-  pub throw-good : (h : Addr) (e : Entry) (x : Slot) → h .0 ≤ P .method (T .class) .code
+  pub throw-fine : (h : Addr) (e : Entry) (x : Slot) → h .0 ≤ P .method (T .class) .code
       → uncaughtGoes vars (h .0) e here ≡ true → (mayGo e ≡ true → stackGoes here ≡ true) → AllFit vars (thrown (h .0) e here (R (T .class) (h .0)))
       → Stands vars (s .objects) cls cnt (rows.pushed e (rows.popped (T .depth) here)) (caught T x)
-      → Good P R s i (throwStep s i T limit vars h x)
-  unfolding uncaughtGoes thrown throwStep popped
-  throw-good h e x l a sg f w = branches P R s i (eqb (h .0) 0) _ _ none found
+      → Fine P R s i (throwFault (s .counts) i limit h) 0 (throwMove s i T vars h x)
+  unfolding uncaughtGoes thrown popped
+  throw-fine h e x l a sg f w = branches P R s i (eqb (h .0) 0) _ _ _ _ none found
     where
-      none : eqb (h .0) 0 ≡ true → Good P R s i (endStep s i T vars 2)
+      none : eqb (h .0) 0 ≡ true → Fine P R s i (endFault (s .counts) i) 0 (endMove s i T vars 2)
       none q =
           let g : (mayGo e && varsGo vars here) ≡ true = rw q at a in
-          end-good 2 (omega arith) (and-snd (mayGo e) (varsGo vars here) g) (sg (and-fst (mayGo e) (varsGo vars here) g))
+          end-fine 2 (omega arith) (and-snd (mayGo e) (varsGo vars here) g) (sg (and-fst (mayGo e) (varsGo vars here) g))
 
-      found : eqb (h .0) 0 ≡ false → Good P R s i (unless (leb 1 limit) 12 s (wentTo s i (caught T x) (h .0)))
+      found : eqb (h .0) 0 ≡ false → Fine P R s i (test (leb 1 limit) 12 0) 0 (wentTo s i (caught T x) (h .0))
       found q =
           let g : AllFit vars (edge (rows.pushed e (emptied here)) (wants (R (T .class) (h .0))) ∷ []) = rw q at f in
           let ad : Address P (T .class) (h .0) = record { class-known = inv .thread i li .live lv .address .class-known; first = omega (arith, eqb-false (h .0) 0 q); last = l } in
           let is = pushed-is (popped (T .depth) T) x (omega arith) in
-          passes P R s i _ 12 _ (le-leb 1 limit (omega (arith, g .0 .depths, A .depth-limit (T .class) (h .0) ad)))
-          (goes-to P R A s inv i li lv (caught T x) (rows.pushed e (rows.popped (T .depth) here)) (h .0) ad (rw is lv) (rw is) w
-          (record {
-            depths = omega (arith, g .0 .depths, st .depth-exact);
-            variables = g .0 .variables;
-            entries = λ j k. let z : j ≡ 0 = omega (arith, st .depth-exact) in rw z (g .0 .entries 0 (omega arith));
-          }))
+          record {
+            no-fault = went-on _ _ (le-leb 1 limit (omega (arith, g .0 .depths, A .depth-limit (T .class) (h .0) ad)));
+            good = λ _. goes-to P R A s inv i li lv (caught T x) (rows.pushed e (rows.popped (T .depth) here)) (h .0) ad (rw is lv) (rw is) w
+                (record {
+                  depths = omega (arith, g .0 .depths, st .depth-exact);
+                  variables = g .0 .variables;
+                  entries = λ j k. let z : j ≡ 0 = omega (arith, st .depth-exact) in rw z (g .0 .entries 0 (omega arith));
+                });
+          }
 
   -- a failed new throws object 0, as (0,0) of the exception class
-  pub failed-good : (h : Addr) → h .0 ≤ P .method (T .class) .code → stackGoes here ≡ true → uncaughtGoes vars (h .0) (made (P .exception)) here ≡ true
-      → AllFit vars (thrown (h .0) (made (P .exception)) here (R (T .class) (h .0))) → Good P R s i (throwStep s i T limit vars h (refSlot 0))
+  pub failed-fine : (h : Addr) → h .0 ≤ P .method (T .class) .code → stackGoes here ≡ true → uncaughtGoes vars (h .0) (made (P .exception)) here ≡ true
+      → AllFit vars (thrown (h .0) (made (P .exception)) here (R (T .class) (h .0))) → Fine P R s i (throwFault (s .counts) i limit h) 0 (throwMove s i T vars h (refSlot 0))
   unfolding stackGoes popped
-  failed-good h l sg a f =
-      throw-good h (made (P .exception)) (refSlot 0) l a (λ _. sg) f
+  failed-fine h l sg a f =
+      throw-fine h (made (P .exception)) (refSlot 0) l a (λ _. sg) f
       (push-stands vars w16 (s .objects) cls cnt (rows.popped (T .depth) here) (popped (T .depth) T) (omega arith)
       (pop-stands vars w16 (s .objects) cls cnt here T e16 st (T .depth) (omega (arith, st .depth-exact)) goes)
       (refSlot 0) (made (P .exception)) (omega arith) refl refl (inv .whole .some-object, inv .whole .first-class))
@@ -139,13 +145,18 @@ module _ (P : Program) (R : ℕ → ℕ → Row) (A : Accepted P R) (s : State) 
       goes : (j : ℕ) → j < T .depth → noEnd ≤ endOf (here .stack j)
       goes j k = goes-end (here .stack j) (all-elim (entryGoes here) (here .depth) sg j (omega (arith, st .depth-exact)))
 
-  pub athrow-good : (h : Addr) → h .0 ≤ P .method (T .class) .code → holds vars (throwRule vars (P .exception) (h .0) here (R (T .class) (h .0))) ≡ true
-      → Good P R s i (athrowStep s i T (P .exception) limit vars h)
-  unfolding throwRule athrowStep stackGoes
-  athrow-good h l e =
-      passes P R s i _ 11 _ (le-leb 1 (T .depth) (omega (arith, st .depth-exact, en)))
-      (passes P R s i _ 13 _ (object-is (s .objects) (s .classes) (P .exception) (here .stack 0) (topOf T) is (entry-kind vars w16 (s .objects) cls cnt here T e16 st 0 (omega (arith, st .depth-exact, en))))
-      (throw-good h (here .stack 0) (topOf T) l ug all (r .1) (throw-stands vars w16 (s .objects) cls cnt here T e16 st en below)))
+  pub athrow-fine : (h : Addr) → h .0 ≤ P .method (T .class) .code → holds vars (throwRule vars (P .exception) (h .0) here (R (T .class) (h .0))) ≡ true
+      → Fine P R s i (athrowFault s i T (P .exception) limit h) 0 (throwMove s i T vars h (topOf T))
+  unfolding throwRule stackGoes
+  athrow-fine h l e =
+      let x = throw-fine h (here .stack 0) (topOf T) l ug all (r .1) (throw-stands vars w16 (s .objects) cls cnt here T e16 st en below) in
+      record {
+        no-fault =
+            went-on _ _ (le-leb 1 (T .depth) (omega (arith, st .depth-exact, en)))
+            ∙ went-on _ _ (object-is (s .objects) (s .classes) (P .exception) (here .stack 0) (topOf T) is (entry-kind vars w16 (s .objects) cls cnt here T e16 st 0 (omega (arith, st .depth-exact, en))))
+            ∙ x .no-fault;
+        good = x .good;
+      }
     where
       r : ((leb 1 (here .depth) && isOf (P .exception) (here .stack 0) && stackGoes (rows.popped 1 here) && uncaughtGoes vars (h .0) (here .stack 0) here) ≡ true) × AllFit vars (thrown (h .0) (here .stack 0) here (R (T .class) (h .0)))
       r = held vars (throwRule vars (P .exception) (h .0) here (R (T .class) (h .0))) e

@@ -9,7 +9,7 @@ use Rattle.threads.specs.declared.Thread.{Thread}
 use Rattle.threads.specs.Threads.{withAt}
 use Rattle.state.specs.declared.State.{State}
 use Rattle.state.specs.State.{threadAt, countOf, classOf}
-use Rattle.machine.specs.Answers.{wentTo}
+use Rattle.machine.specs.Moves.{wentTo}
 use Rattle.matching.specs.Matching.{wants, edge}
 use Rattle.soundness.proofs.Held.{Fits}
 use Rattle.soundness.proofs.Accepted.{Address, Accepted}

@@ -1,12 +1,13 @@
 -- new: one object more, of weight (0,0) on the stack; or it fails, and throws.
 use Prim.Native.Nat.{ℕ, _+_, _≤_, _<_}
 use mathlib.Core.Path.{_≡_, refl}
-use mathlib.Core.Bool.{Bool, true, _||_}
+use mathlib.Core.Bool.{Bool, true}
 use native.Mathlib.Omega.{arith}
 use lib.Dec.{leb}
 use lib.Seq.{getD-set-same, getD-set-other}
 use borrow.Author.Tests.{leb-false, lt-ltb}
 use Rattle.ground.proofs.Bools.{and-fst, and-snd, or-false-snd}
+use Rattle.ground.proofs.Chain.{went-on}
 use Rattle.instructions.specs.declared.Addr.{Addr}
 use Rattle.bundle.specs.Program.{Program}
 use Rattle.entries.specs.Entries.{Ref, noEnd}
@@ -21,16 +22,17 @@ use Rattle.threads.specs.declared.Thread.{Thread}
 use Rattle.threads.specs.Threads.{withAt, pushed}
 use Rattle.state.specs.declared.State.{State}
 use Rattle.state.specs.State.{threadAt, countOf, classOf}
-use Rattle.machine.specs.Instructions.{makeStep, newStep}
+use Rattle.machine.specs.Faults.{pushFault, newFails, newFault}
+use Rattle.machine.specs.Moves.{makeMove, newMove}
 use Rattle.machine.proofs.Changes.{grown}
 use Rattle.soundness.proofs.Held.{Fits, held}
 use Rattle.soundness.proofs.Values.{pushed-is}
 use Rattle.soundness.proofs.Accepted.{Address, Accepted}
 use Rattle.soundness.proofs.Stands.{Stands, push-stands, fit-stands}
 use Rattle.soundness.proofs.Invariant.{Live, Inv}
-use Rattle.soundness.proofs.Moves.{others, standing-more, live-standing, thread-moves, object-grows, grown-is, Good, went, passes, branches}
+use Rattle.soundness.proofs.Moves.{others, standing-more, live-standing, thread-moves, object-grows, grown-is, Good, went, Fine, branches}
 use Rattle.soundness.proofs.Goes.{arrives, v16, d16, at-here, has-room}
-use Rattle.soundness.proofs.Ends.{failed-good}
+use Rattle.soundness.proofs.Ends.{failed-fine}
 
 module _ (P : Program) (R : ℕ → ℕ → Row) (A : Accepted P R) (s : State) (inv : Inv P R s) (i : ℕ) (li : i < 8) (lv : threadAt s i .live ≡ true) where
   abbrev T : Thread
@@ -66,18 +68,9 @@ module _ (P : Program) (R : ℕ → ℕ → Row) (A : Accepted P R) (s : State) 
   e16 : T .depth ≤ 16
   e16 = d16 P R A s inv i li lv
 
-  make-good : (c : ℕ) → c < P .classes → s .objects < 32 → Next → Fits vars (edge (rows.pushed (Ref c 0 noEnd) here) (wants next)) → Good P R s i (makeStep s i T limit c)
-  unfolding makeStep
-  make-good c lc lo ad f =
-      passes P R s i _ 12 _ (lt-ltb (T .depth) limit room)
-      (rw (grown-is s c lo)
-      (went P R s i _
-      (thread-moves P R (grown s c) i li (object-grows P R s i li (others P R s inv i) c lc lo) _
-      (live-standing P R (s .objects + 1) (classOf (grown s c)) cnt (withAt (pushed T made) (T .at .0 + 1))
-      (arrives P R (s .objects + 1) (classOf (grown s c)) cnt (pushed T made) (T .class) (T .at .0 + 1) (rw (pushed-is T made below) lv) (rw (pushed-is T made below)) ad
-      (fit-stands vars w16 (s .objects + 1) (classOf (grown s c)) cnt (rows.pushed (Ref c 0 noEnd) here) next (pushed T made) f
-      (push-stands vars w16 (s .objects + 1) (classOf (grown s c)) cnt here T e16 (more .stands) made (Ref c 0 noEnd) below refl refl
-      (omega arith, getD-set-same (s .classes) (s .objects) c 0 (omega (arith, inv .whole .classes-32))))))))))
+  make-fine : (c : ℕ) → c < P .classes → s .objects < 32 → Next → Fits vars (edge (rows.pushed (Ref c 0 noEnd) here) (wants next)) → Fine P R s i (pushFault T limit) 0 (makeMove s i T c)
+  make-fine c lc lo ad f =
+      record { no-fault = went-on _ _ (lt-ltb (T .depth) limit room); good = λ _. moved }
     where
       made : Slot
       made = refSlot (s .objects)
@@ -93,11 +86,22 @@ module _ (P : Program) (R : ℕ → ℕ → Row) (A : Accepted P R) (s : State) 
           standing-more P R (s .objects) cls cnt (s .objects + 1) (classOf (grown s c)) cnt T (omega arith)
           (λ o k. getD-set-other (s .classes) (s .objects) o c 0 (omega arith)) (λ o _. refl) (inv .thread i li) .live lv
 
-  pub new-good : (c : ℕ) (h : Addr) (fails : Bool) → c < P .classes → h .0 ≤ P .method (T .class) .code → Next
-      → holds vars (newRule vars (P .exception) c (h .0) here next (R (T .class) (h .0))) ≡ true → Good P R s i (newStep s i T limit vars c h fails)
-  unfolding newRule newStep
-  new-good c h fails lc lh ad e =
+      moved : Good P R s i (makeMove s i T c)
+      moved =
+          rw (grown-is s c lo)
+          (went P R s i _
+          (thread-moves P R (grown s c) i li (object-grows P R s i li (others P R s inv i) c lc lo) _
+          (live-standing P R (s .objects + 1) (classOf (grown s c)) cnt (withAt (pushed T made) (T .at .0 + 1))
+          (arrives P R (s .objects + 1) (classOf (grown s c)) cnt (pushed T made) (T .class) (T .at .0 + 1) (rw (pushed-is T made below) lv) (rw (pushed-is T made below)) ad
+          (fit-stands vars w16 (s .objects + 1) (classOf (grown s c)) cnt (rows.pushed (Ref c 0 noEnd) here) next (pushed T made) f
+          (push-stands vars w16 (s .objects + 1) (classOf (grown s c)) cnt here T e16 (more .stands) made (Ref c 0 noEnd) below refl refl
+          (omega arith, getD-set-same (s .classes) (s .objects) c 0 (omega (arith, inv .whole .classes-32)))))))))
+
+  pub new-fine : (c : ℕ) (h : Addr) (fails : Bool) → c < P .classes → h .0 ≤ P .method (T .class) .code → Next
+      → holds vars (newRule vars (P .exception) c (h .0) here next (R (T .class) (h .0))) ≡ true → Fine P R s i (newFault s i T limit h fails) 0 (newMove s i T vars c h fails)
+  unfolding newRule
+  new-fine c h fails lc lh ad e =
       let r = held vars (newRule vars (P .exception) c (h .0) here next (R (T .class) (h .0))) e in
-      branches P R s i (fails || leb 32 (s .objects)) _ _
-      (λ _. failed-good P R A s inv i li lv h lh (and-fst (stackGoes here) _ (r .0)) (and-snd (stackGoes here) _ (r .0)) (r .1 .1))
-      (λ q. make-good c lc (leb-false 32 (s .objects) (or-false-snd fails (leb 32 (s .objects)) q)) ad (r .1 .0))
+      branches P R s i (newFails s fails) _ _ _ _
+      (λ _. failed-fine P R A s inv i li lv h lh (and-fst (stackGoes here) _ (r .0)) (and-snd (stackGoes here) _ (r .0)) (r .1 .1))
+      (λ q. make-fine c lc (leb-false 32 (s .objects) (or-false-snd fails (leb 32 (s .objects)) q)) ad (r .1 .0))

@@ -8,7 +8,6 @@ use native.Mathlib.Decide.{ℕ-discrete, decLt}
 use lib.ListN.{getD, set, length-set}
 use lib.Seq.{getD-set-same, getD-set-other}
 use borrow.Author.Tests.{lt-ltb}
-use Rattle.ground.specs.Chain.{refuse}
 use Rattle.ground.proofs.Bools.{never}
 use Rattle.bundle.specs.Program.{Program}
 use Rattle.rows.specs.Rows.{Row}
@@ -17,7 +16,7 @@ use Rattle.threads.specs.Threads.{idle}
 use Rattle.state.specs.declared.State.{State}
 use Rattle.state.specs.State.{threadAt, countOf, classOf, withThread, withCount, withObject}
 use Rattle.machine.specs.declared.Stepped.{Stepped}
-use Rattle.machine.specs.Answers.{refused, unless}
+use Rattle.machine.specs.Answers.{refused}
 use Rattle.machine.proofs.Changes.{grown}
 use Rattle.soundness.proofs.Balance.{balanced-more}
 use Rattle.soundness.proofs.Values.{valueOf}
@@ -166,24 +165,19 @@ module _ (P : Program) (R : ℕ → ℕ → Row) (s : State) (i : ℕ) where
   pub given : (n : ℕ) → 3 ≤ n → n ≤ 5 → Inv P R s → Good P R s i (refused n s)
   given n l k h = goes n s k (omega arith) (omega arith) h
 
-  -- a test that holds
-  pub passes : (ok : Bool) (n : ℕ) (rest : Stepped) → ok ≡ true → Good P R s i rest → Good P R s i (unless ok n s rest)
-  unfolding refuse
-  passes ok n rest e g = rw e g
-
-  -- a test that may fail, with an answer that is no fault
-  pub either : (ok : Bool) (n : ℕ) (rest : Stepped) → 3 ≤ n → n ≤ 5 → Inv P R s → (ok ≡ true → Good P R s i rest) → Good P R s i (unless ok n s rest)
-  unfolding refuse
-  either true n rest l k h g = g refl
-  either false n rest l k h g = given n l k h
-
-  pub branches : (b : Bool) (x y : Stepped) → (b ≡ true → Good P R s i x) → (b ≡ false → Good P R s i y) → Good P R s i (cond b x y)
-  branches true x y g h = g refl
-  branches false x y g h = h refl
-
   -- the thread goes on as u, and nothing else changes
   pub went-as : (u : Thread) → i < 8 → Inv P R s → Live P R (s .objects) (classOf s) (countOf (s .counts) i) u
       → Good P R s i (record { answer = 0; state = withThread s i u })
   went-as u li inv h =
       went (withThread s i u)
       (thread-moves P R s i li (others P R s inv i) u (live-standing P R (s .objects) (classOf s) (countOf (s .counts) i) u h))
+
+-- ---- an instruction of thread i under its rule: it draws no fault, and where it doesn't wait, its move is a good step
+pub record Fine (P : Program) (R : ℕ → ℕ → Row) (s : State) (i fault wait : ℕ) (move : Stepped) : Type 0 where
+  pub no-fault : fault ≡ 0
+  pub good : wait ≡ 0 → Good P R s i move
+
+pub branches : (P : Program) (R : ℕ → ℕ → Row) (s : State) (i : ℕ) (b : Bool) (f g : ℕ) (x y : Stepped)
+    → (b ≡ true → Fine P R s i f 0 x) → (b ≡ false → Fine P R s i g 0 y) → Fine P R s i (cond b f g) 0 (cond b x y)
+branches P R s i true f g x y p q = p refl
+branches P R s i false f g x y p q = q refl

@@ -11,6 +11,7 @@ use borrow.Author.Tests.{not-true, leb-true, le-leb, ltb-true}
 use Rattle.ground.specs.Bounded.{setBelow}
 use Rattle.ground.proofs.Bools.{and-fst, and-snd}
 use Rattle.ground.proofs.Bounded.{all-elim, all-intro, first-is}
+use Rattle.ground.proofs.Chain.{went-on}
 use Rattle.ground.proofs.Writes.{set-length}
 use Rattle.bundle.specs.Program.{Program}
 use Rattle.entries.specs.Entries.{Entry, isInt, isOf, matches}
@@ -27,14 +28,17 @@ use Rattle.threads.specs.declared.Thread.{Thread}
 use Rattle.threads.specs.Threads.{entryOf, withAt, popped, started}
 use Rattle.state.specs.declared.State.{State}
 use Rattle.state.specs.State.{threadAt, countOf, classOf, withThread, notLive, lowestFree}
-use Rattle.machine.specs.Instructions.{isObject, isArgument, argumentAt, argumentsOk, startedBy, startStep}
+use Rattle.machine.specs.Faults.{isObject, isArgument, argumentAt, argumentsOk, startFault}
+use Rattle.machine.specs.Waits.{startWait}
+use Rattle.machine.specs.Moves.{startedBy, startMove}
+use Rattle.machine.proofs.Refusals.{tested}
 use Rattle.soundness.proofs.Kind.{Matches, int-value, argument-kind, object-is}
 use Rattle.soundness.proofs.Held.{Fits, held}
 use Rattle.soundness.proofs.Weights.{goes-end}
 use Rattle.soundness.proofs.Values.{value-argument, value-zero}
 use Rattle.soundness.proofs.Accepted.{Address, Accepted}
 use Rattle.soundness.proofs.Invariant.{Live, Asleep, Inv}
-use Rattle.soundness.proofs.Moves.{others, live-standing, thread-moves, Good, went, passes, either}
+use Rattle.soundness.proofs.Moves.{others, live-standing, thread-moves, Good, went, Fine}
 use Rattle.soundness.proofs.Stands.{Stands, entry-kind, pop-stands, fit-stands}
 use Rattle.soundness.proofs.Goes.{arrives, v16, d16, at-here}
 use Rattle.soundness.proofs.Fresh.{born-live}
@@ -129,7 +133,7 @@ module _ (P : Program) (R : ℕ → ℕ → Row) (A : Accepted P R) (s : State) 
 
     -- the starter goes on
     starts : Next → (j : ℕ) → j < 8 → threadAt s j .live ≡ false → Good P R s i (startedBy s i T args c j)
-    unfolding startedBy popped
+    unfolding popped
     starts ad j lj d =
         let u : Thread = started (threadAt s j) T c args in
         let one : Inv P R (withThread s j u) =
@@ -146,15 +150,16 @@ module _ (P : Program) (R : ℕ → ℕ → Row) (A : Accepted P R) (s : State) 
   unfolding lowestFree
   free-is l = not-true _ (first-is 8 (notLive s) l)
 
-  pub start-good : Next → holds vars (startRule args descriptor c here next) ≡ true → Good P R s i (startStep s i T args descriptor c)
-  unfolding startRule startStep
-  start-good ad e =
+  pub start-fine : Next → holds vars (startRule args descriptor c here next) ≡ true
+      → Fine P R s i (startFault (s .classes) T args descriptor c) (startWait s) (startMove s i T args c)
+  unfolding startRule
+  start-fine ad e =
       let r = held vars (startRule args descriptor c here next) e in
       let a : (leb (args + 1) (here .depth) && argumentsGo args descriptor here && objectGoes c here args) ≡ true = r .0 in
       let en : args + 1 ≤ here .depth = leb-true _ _ (search (and-fst, and-snd)) in
       let ag : argumentsGo args descriptor here ≡ true = search (and-fst, and-snd) in
       let og : objectGoes c here args ≡ true = search (and-fst, and-snd) in
-      passes P R s i _ 11 _ (le-leb (args + 1) (T .depth) (enough ag og en (r .1 .0)))
-      (passes P R s i _ 13 _ (arguments-ok ag og en (r .1 .0))
-      (either P R s i _ 4 _ (omega arith) (omega arith) inv
-      (λ f. let l : lowestFree s < 8 = ltb-true (lowestFree s) 8 f in starts ag og en (r .1 .0) ad (lowestFree s) l (free-is l))))
+      record {
+        no-fault = went-on _ _ (le-leb (args + 1) (T .depth) (enough ag og en (r .1 .0))) ∙ went-on _ _ (arguments-ok ag og en (r .1 .0));
+        good = λ w. let l : lowestFree s < 8 = ltb-true (lowestFree s) 8 (tested _ _ _ w .0) in starts ag og en (r .1 .0) ad (lowestFree s) l (free-is l);
+      }

@@ -1,11 +1,13 @@
--- Every instruction of a live thread, under its row of the table and its rule, is a good step. A new instruction has its line here.
+-- Every instruction of a live thread, under its row of the table and its rule, is fine: it draws no fault, and its move is a good step. A new instruction has its line here.
 use Prim.Native.Nat.{ℕ, _+_, _≤_, _<_}
 use mathlib.Core.Path.{_≡_, refl}
+use mathlib.Core.Logic.{_≢_}
 use mathlib.Core.List.{[]}
 use mathlib.Core.Bool.{Bool, true, false, not, _||_}
 use native.Mathlib.Omega.{arith}
-use lib.Dec.{eqb}
+use lib.Dec.{ltb, eqb}
 use borrow.Author.Tests.{ltb-true, leb-true, eqb-false}
+use Rattle.ground.specs.Chain.{refuse}
 use Rattle.ground.proofs.Bools.{and-fst, and-snd}
 use Rattle.instructions.specs.declared.Var.{Var}
 use Rattle.instructions.specs.declared.Instruction.{Instruction}
@@ -19,18 +21,23 @@ use Rattle.values.specs.Values.{objectOf}
 use Rattle.threads.specs.declared.Thread.{Thread}
 use Rattle.threads.specs.Threads.{varOf}
 use Rattle.state.specs.declared.State.{State}
-use Rattle.state.specs.State.{threadAt, countOf}
-use Rattle.machine.specs.Machine.{execOf, runOf}
+use Rattle.state.specs.State.{threadAt, countOf, othersFree, lowestFree}
+use Rattle.machine.specs.Answers.{refused, test}
+use Rattle.machine.specs.Faults.{lockOf, faultOf}
+use Rattle.machine.specs.Waits.{waitOf}
+use Rattle.machine.specs.Moves.{moveOf}
+use Rattle.machine.specs.Machine.{runOf}
+use Rattle.machine.proofs.Refusals.{draws}
 use Rattle.soundness.proofs.Held.{held}
 use Rattle.soundness.proofs.Kind.{nope}
 use Rattle.soundness.proofs.Accepted.{Address, Accepted}
 use Rattle.soundness.proofs.Invariant.{Inv}
-use Rattle.soundness.proofs.Moves.{Good}
-use Rattle.soundness.proofs.Stack.{inc-good, pop-good, push0-good, load-good, store-good, if-good}
-use Rattle.soundness.proofs.Locks.{enter-good, exit-good, leaves-held}
-use Rattle.soundness.proofs.Ends.{athrow-good, return-good}
-use Rattle.soundness.proofs.Makes.{new-good}
-use Rattle.soundness.proofs.Starts.{start-good}
+use Rattle.soundness.proofs.Moves.{Good, given, Fine}
+use Rattle.soundness.proofs.Stack.{inc-fine, pop-fine, push0-fine, load-fine, store-fine, if-fine}
+use Rattle.soundness.proofs.Locks.{enter-fine, exit-fine, leaves-held}
+use Rattle.soundness.proofs.Ends.{athrow-fine, return-fine}
+use Rattle.soundness.proofs.Makes.{new-fine}
+use Rattle.soundness.proofs.Starts.{start-fine}
 
 -- address k holds athrow or return: any other instruction has a next address
 next-address : (code l : ℕ) (x : Instruction) → lastOk code l x ≡ true → endsCode x ≡ false → l ≤ code → l + 1 ≤ code
@@ -65,33 +72,68 @@ module _ (P : Program) (R : ℕ → ℕ → Row) (A : Accepted P R) (s : State) 
   next x e h =
       record { class-known = here .class-known; first = omega arith; last = next-address code L x (search and-snd) e (here .last) }
 
-  exec-good : (fails : Bool) (x : Instruction) → instructionOk (P .classes) vars code L x ≡ true → holds vars (ruleOf P vars (R C) L x) ≡ true
-      → Good P R s i (execOf P s i T (P .method C) fails x)
+  exec-fine : (fails : Bool) (x : Instruction) → instructionOk (P .classes) vars code L x ≡ true → holds vars (ruleOf P vars (R C) L x) ≡ true
+      → Fine P R s i (faultOf P s i T (P .method C) fails x) (waitOf s i T x) (moveOf P s i T (P .method C) fails x)
   unfolding instructionOk targetOk
-  exec-good fails Inc h r = inc-good P R A s inv i li lv (next Inc refl h) r
-  exec-good fails Pop h r = pop-good P R A s inv i li lv (next Pop refl h) r
-  exec-good fails Push0 h r = push0-good P R A s inv i li lv (next Push0 refl h) r
-  exec-good fails (Load v) h r = load-good P R A s inv i li lv v (ltb-true _ _ (search and-fst)) (next (Load v) refl h) r
-  exec-good fails (Store v) h r = store-good P R A s inv i li lv v (ltb-true _ _ (search and-fst)) (next (Store v) refl h) r
-  exec-good fails (If a) h r =
-      if-good P R A s inv i li lv a (next (If a) refl h)
+  exec-fine fails Inc h r = inc-fine P R A s inv i li lv (next Inc refl h) r
+  exec-fine fails Pop h r = pop-fine P R A s inv i li lv (next Pop refl h) r
+  exec-fine fails Push0 h r = push0-fine P R A s inv i li lv (next Push0 refl h) r
+  exec-fine fails (Load v) h r = load-fine P R A s inv i li lv v (ltb-true _ _ (search and-fst)) (next (Load v) refl h) r
+  exec-fine fails (Store v) h r = store-fine P R A s inv i li lv v (ltb-true _ _ (search and-fst)) (next (Store v) refl h) r
+  exec-fine fails (If a) h r =
+      if-fine P R A s inv i li lv a (next (If a) refl h)
       (record { class-known = here .class-known; first = leb-true _ _ (search (and-fst, and-snd)); last = leb-true _ _ (search (and-fst, and-snd)) }) r
-  exec-good fails (Enter v) h r = enter-good P R A s inv i li lv v (ltb-true _ _ (search and-fst)) (next (Enter v) refl h) r
-  exec-good fails (Exit v) h r = exit-good P R A s inv i li lv v (ltb-true _ _ (search and-fst)) (next (Exit v) refl h) r
-  exec-good fails (New c a) h r =
-      new-good P R A s inv i li lv c a fails (ltb-true _ _ (search (and-fst, and-snd))) (leb-true _ _ (search (and-fst, and-snd))) (next (New c a) refl h) r
-  exec-good fails (Start c) h r = start-good P R A s inv i li lv c (ltb-true _ _ (search and-fst)) (next (Start c) refl h) r
-  exec-good fails (Throw a) h r = athrow-good P R A s inv i li lv a (leb-true _ _ (search and-fst)) r
-  exec-good fails Return h r = return-good P R A s inv i li lv r
-  exec-good fails Nothing h r = nope (held vars (rule false []) r .0)
+  exec-fine fails (Enter v) h r = enter-fine P R A s inv i li lv v (ltb-true _ _ (search and-fst)) (next (Enter v) refl h) r
+  exec-fine fails (Exit v) h r = exit-fine P R A s inv i li lv v (ltb-true _ _ (search and-fst)) (next (Exit v) refl h) r
+  exec-fine fails (New c a) h r =
+      new-fine P R A s inv i li lv c a fails (ltb-true _ _ (search (and-fst, and-snd))) (leb-true _ _ (search (and-fst, and-snd))) (next (New c a) refl h) r
+  exec-fine fails (Start c) h r = start-fine P R A s inv i li lv c (ltb-true _ _ (search and-fst)) (next (Start c) refl h) r
+  exec-fine fails (Throw a) h r = athrow-fine P R A s inv i li lv a (leb-true _ _ (search and-fst)) r
+  exec-fine fails Return h r = return-fine P R A s inv i li lv r
+  exec-fine fails Nothing h r = nope (held vars (rule false []) r .0)
 
   table-here : instructionOk (P .classes) vars code L (P .method C .instruction L) ≡ true
   table-here = A .formed .table C L (here .class-known) (here .first) (here .last)
 
+  abbrev X : Instruction
+  X = P .method C .instruction L
+
+  fine : (fails : Bool) → Fine P R s i (faultOf P s i T (P .method C) fails X) (waitOf s i T X) (moveOf P s i T (P .method C) fails X)
+  fine fails = exec-fine fails X table-here (A .rule C L here)
+
+  -- THEOREM: an instruction of a live thread draws no fault
+  pub no-fault : (fails : Bool) → faultOf P s i T (P .method C) fails X ≡ 0
+  no-fault fails = fine fails .no-fault
+
+  -- THEOREM: where it doesn't wait, its move is a good step
+  pub move-good : (fails : Bool) → waitOf s i T X ≡ 0 → Good P R s i (moveOf P s i T (P .method C) fails X)
+  move-good fails = fine fails .good
+
+  drawn : (ok : Bool) (n : ℕ) → 3 ≤ n → n ≤ 5 → test ok n 0 ≢ 0 → Good P R s i (refused (test ok n 0) s)
+  unfolding refuse
+  drawn true n l k d = absurd (d refl)
+  drawn false n l k d = given P R s i n l k inv
+
+  -- one that waits answers 3 or 4, and changes nothing
+  waits : (x : Instruction) → waitOf s i T x ≢ 0 → Good P R s i (refused (waitOf s i T x) s)
+  waits Inc n = absurd (n refl)
+  waits Pop n = absurd (n refl)
+  waits Push0 n = absurd (n refl)
+  waits (Load v) n = absurd (n refl)
+  waits (Store v) n = absurd (n refl)
+  waits (If a) n = absurd (n refl)
+  waits (Enter v) n = drawn (othersFree (s .counts) i (lockOf T v)) 3 (omega arith) (omega arith) n
+  waits (Exit v) n = absurd (n refl)
+  waits (New c a) n = absurd (n refl)
+  waits (Start c) n = drawn (ltb (lowestFree s) 8) 4 (omega arith) (omega arith) n
+  waits (Throw a) n = absurd (n refl)
+  waits Return n = absurd (n refl)
+  waits Nothing n = absurd (n refl)
+
   -- THEOREM: every step of a live thread is good
   pub run-good : (fails : Bool) → Good P R s i (runOf P s i T fails)
   unfolding runOf
-  run-good fails = exec-good fails (P .method C .instruction L) table-here (A .rule C L here)
+  run-good fails = draws (Good P R s i) s _ _ (λ n. absurd (n (no-fault fails))) (λ _. draws (Good P R s i) s _ _ (waits X) (move-good fails))
 
   -- at monitorexit, the thread holds the object
   pub exit-held : (v : Var) → P .method C .instruction L ≡ Exit v → 0 < countOf (s .counts) i (objectOf (varOf T (v .0)))

@@ -1,6 +1,7 @@
-use mathlib.Core.Path.{refl, _∙_}
+use Rattle.ground.specs.Chain.{refuse}
 use Rattle.bundle.specs.Program.{methodOf, programOf}
 use Rattle.threads.proofs.Places.{length-mapped}
+use Rattle.machine.specs.Answers.{unlessDrawn}
 use Rattle.machine.proofs.Ready.{next-fits, rests, runs}
 use borrow.Author.Needs.{needs}
 use Rattle.machine.proofs.run.Statement.{statement}
@@ -96,43 +97,44 @@ athrow-step-requires c κs = search needs
 enum-told-4 : tie.Need-enum-told-4
 enum-told-4 c = search needs
 
-end-turn-requires : tie.Need-end-turn-requires
-end-turn-requires c κs = search needs
-
-settle-requires : tie.Need-settle-requires
-settle-requires c κs = search needs
+return-step-requires : tie.Need-return-step-requires
+return-step-requires c κs = search needs
 
 enum-told-5 : tie.Need-enum-told-5
 enum-told-5 c = search needs
 
 returns-2 : tie.Need-returns-2
+unfolding unlessDrawn refuse
 returns-2 c =
     runs _ (c .before .before .before .before .before .before .before .before .before .before .args .t2) _ _ (search (needs, length-mapped, c .before .before .before .before .before .before .before .before .before .before .good)) (c .before .before .before .before .before .before .before .before .before .before .pre) _ (c .before .before .before .before .before .before .if1 .left) (c .before .before .before .before .before .class-at .ensures) (c .before .before .before .before .part-of .ensures) (c .before .before .before .instruction-at .ensures)
     (rw (c .inc-step .ensures, c .before .enum-told .given .1))
 
 returns-3 : tie.Need-returns-3
+unfolding unlessDrawn refuse
 returns-3 c =
     runs _ (c .before .before .before .before .before .before .before .before .before .before .args .t2) _ _ (search (needs, length-mapped, c .before .before .before .before .before .before .before .before .before .before .good)) (c .before .before .before .before .before .before .before .before .before .before .pre) _ (c .before .before .before .before .before .before .if1 .left) (c .before .before .before .before .before .class-at .ensures) (c .before .before .before .before .part-of .ensures) (c .before .before .before .instruction-at .ensures)
     (rw (c .pop-step .ensures, c .before .enum-told2 .given .1))
 
 returns-4 : tie.Need-returns-4
-unfolding methodOf
+unfolding methodOf unlessDrawn refuse
 returns-4 c =
     runs _ (c .before .before .before .before .before .before .before .before .before .before .args .t2) _ _ (search (needs, length-mapped, c .before .before .before .before .before .before .before .before .before .before .good)) (c .before .before .before .before .before .before .before .before .before .before .pre) _ (c .before .before .before .before .before .before .if1 .left) (c .before .before .before .before .before .class-at .ensures) (c .before .before .before .before .part-of .ensures) (c .before .before .before .instruction-at .ensures)
     (rw (c .push0-step .ensures, c .before .enum-told3 .given .1))
 
 returns-5 : tie.Need-returns-5
-unfolding methodOf
+unfolding methodOf unlessDrawn refuse
 returns-5 c =
     runs _ (c .before .before .before .before .before .before .before .before .before .before .before .args .t2) _ _ (search (needs, length-mapped, c .before .before .before .before .before .before .before .before .before .before .before .good)) (c .before .before .before .before .before .before .before .before .before .before .before .pre) _ (c .before .before .before .before .before .before .before .if1 .left) (c .before .before .before .before .before .before .class-at .ensures) (c .before .before .before .before .before .part-of .ensures) (c .before .before .before .before .instruction-at .ensures)
     (rw (c .load-step .ensures, c .before .before .x .given .1))
 
 returns-6 : tie.Need-returns-6
+unfolding unlessDrawn refuse
 returns-6 c =
     runs _ (c .before .before .before .before .before .before .before .before .before .before .before .args .t2) _ _ (search (needs, length-mapped, c .before .before .before .before .before .before .before .before .before .before .before .good)) (c .before .before .before .before .before .before .before .before .before .before .before .pre) _ (c .before .before .before .before .before .before .before .if1 .left) (c .before .before .before .before .before .before .class-at .ensures) (c .before .before .before .before .before .part-of .ensures) (c .before .before .before .before .instruction-at .ensures)
     (rw (c .store-step .ensures, c .before .before .x2 .given .1))
 
 returns-7 : tie.Need-returns-7
+unfolding unlessDrawn refuse
 returns-7 c =
     runs _ (c .before .before .before .before .before .before .before .before .before .before .before .args .t2) _ _ (search (needs, length-mapped, c .before .before .before .before .before .before .before .before .before .before .before .good)) (c .before .before .before .before .before .before .before .before .before .before .before .pre) _ (c .before .before .before .before .before .before .before .if1 .left) (c .before .before .before .before .before .before .class-at .ensures) (c .before .before .before .before .before .part-of .ensures) (c .before .before .before .before .instruction-at .ensures)
     (rw (c .if-step .ensures, c .before .before .x3 .given .1))
@@ -143,12 +145,13 @@ returns-8 c =
     (rw (c .enter-step .ensures, c .before .before .x4 .given .1))
 
 returns-9 : tie.Need-returns-9
+unfolding unlessDrawn refuse
 returns-9 c =
     runs _ (c .before .before .before .before .before .before .before .before .before .before .before .args .t2) _ _ (search (needs, length-mapped, c .before .before .before .before .before .before .before .before .before .before .before .good)) (c .before .before .before .before .before .before .before .before .before .before .before .pre) _ (c .before .before .before .before .before .before .before .if1 .left) (c .before .before .before .before .before .before .class-at .ensures) (c .before .before .before .before .before .part-of .ensures) (c .before .before .before .before .instruction-at .ensures)
     (rw (c .exit-step .ensures, c .before .before .x5 .given .1))
 
 returns-10 : tie.Need-returns-10
-unfolding methodOf
+unfolding methodOf unlessDrawn refuse
 returns-10 c =
     runs _ (c .before .before .before .before .before .before .before .before .before .before .before .args .t2) _ _ (search (needs, length-mapped, c .before .before .before .before .before .before .before .before .before .before .before .good)) (c .before .before .before .before .before .before .before .before .before .before .before .pre) _ (c .before .before .before .before .before .before .before .if1 .left) (c .before .before .before .before .before .before .class-at .ensures) (c .before .before .before .before .before .part-of .ensures) (c .before .before .before .before .instruction-at .ensures)
     (rw (c .new-step .ensures, c .before .before .x6 .given .1))
@@ -160,18 +163,19 @@ returns-11 c =
     (rw (c .start-class .ensures, c .before .before .x7 .given .1))
 
 returns-12 : tie.Need-returns-12
-unfolding methodOf programOf
+unfolding methodOf programOf unlessDrawn refuse
 returns-12 c =
     runs _ (c .before .before .before .before .before .before .before .before .before .before .before .before .args .t2) _ _ (search (needs, length-mapped, c .before .before .before .before .before .before .before .before .before .before .before .before .good)) (c .before .before .before .before .before .before .before .before .before .before .before .before .pre) _ (c .before .before .before .before .before .before .before .before .if1 .left) (c .before .before .before .before .before .before .before .class-at .ensures) (c .before .before .before .before .before .before .part-of .ensures) (c .before .before .before .before .before .instruction-at .ensures)
     (rw (c .athrow-step .ensures, c .before .exception .ensures, c .before .before .before .x8 .given .1))
 
 returns-13 : tie.Need-returns-13
-unfolding methodOf
+unfolding methodOf unlessDrawn refuse
 returns-13 c =
-    runs _ (c .before .before .before .before .before .before .before .before .before .before .before .before .before .before .args .t2) _ _ (search (needs, length-mapped, c .before .before .before .before .before .before .before .before .before .before .before .before .before .before .good)) (c .before .before .before .before .before .before .before .before .before .before .before .before .before .before .pre) _ (c .before .before .before .before .before .before .before .before .before .before .if1 .left) (c .before .before .before .before .before .before .before .before .before .class-at .ensures) (c .before .before .before .before .before .before .before .before .part-of .ensures) (c .before .before .before .before .before .before .before .instruction-at .ensures)
-    (rw (c .before .before .before .before .before .enum-told4 .given .1) (c .settle .ensures ∙ c .before .end-turn .ensures _ refl))
+    runs _ (c .before .before .before .before .before .before .before .before .before .before .args .t2) _ _ (search (needs, length-mapped, c .before .before .before .before .before .before .before .before .before .before .good)) (c .before .before .before .before .before .before .before .before .before .before .pre) _ (c .before .before .before .before .before .before .if1 .left) (c .before .before .before .before .before .class-at .ensures) (c .before .before .before .before .part-of .ensures) (c .before .before .before .instruction-at .ensures)
+    (rw (c .return-step .ensures, c .before .enum-told4 .given .1))
 
 returns-14 : tie.Need-returns-14
+unfolding unlessDrawn refuse
 returns-14 c =
     runs _ (c .before .before .before .before .before .before .before .before .before .args .t2) _ _ (search (needs, length-mapped, c .before .before .before .before .before .before .before .before .before .good)) (c .before .before .before .before .before .before .before .before .before .pre) _ (c .before .before .before .before .before .if1 .left) (c .before .before .before .before .class-at .ensures) (c .before .before .before .part-of .ensures) (c .before .before .instruction-at .ensures)
     (rw (c .enum-told5 .given .1))
@@ -210,8 +214,7 @@ run-spec =
     exception-requires
     athrow-step-requires
     enum-told-4
-    end-turn-requires
-    settle-requires
+    return-step-requires
     enum-told-5
     returns-2
     returns-3

@@ -5,7 +5,7 @@ use Rattle.ground.specs.Bytes.{at}
 use Rattle.ground.specs.Bounded.{allBelow}
 use Rattle.ground.proofs.Bounded.{all-zero, all-more, all-stop, all-done}
 use Rattle.ground.proofs.Bools.{passed, failed}
-use Rattle.machine.specs.Instructions.{argumentAt, argumentsOk}
+use Rattle.machine.specs.Faults.{argumentAt, argumentsOk}
 use borrow.Author.Needs.{needs}
 use Rattle.machine.proofs.starts.arguments_ok.Statement.{statement}
 use Rattle.machine.proofs.starts.arguments_ok.Tie as tie
