@@ -12,6 +12,7 @@ use Rattle.ground.proofs.Bools.{and-fst, and-snd}
 use Rattle.ground.proofs.Bounded.{all-elim}
 use Rattle.bundle.specs.Container.{classes, classAt, partOf}
 use Rattle.bundle.specs.Program.{methodOf, methodAt, programOf}
+use Rattle.bundle.specs.Program as program
 use Rattle.structure.proofs.Structured.{WellFormed, well-formed}
 use Rattle.entries.specs.Entries.{Entry, Int, Top, Ref, Blank, Malformed, minEnd, zeros, pairOk, entryOf, entryFrom, endOf, isTop, isType, argumentEntry}
 use Rattle.entries.specs.Fits.{entryFits}
@@ -21,7 +22,7 @@ use Rattle.verifier.specs.Verdict.{verdictOf}
 use Rattle.verifier.specs.Places.{form, first, rule}
 use Rattle.verifier.proofs.FirstBroken.{verdict-zero, agrees-back}
 use Rattle.soundness.proofs.Kind.{nope}
-use Rattle.soundness.proofs.Accepted.{Accepted}
+use Rattle.soundness.proofs.Accepted.{Address, Accepted}
 
 -- the rows of a bundle, by class and address
 abbrev pub rowsOf : List ℕ → ℕ → ℕ → Row
@@ -82,6 +83,9 @@ module _ (vars args : ℕ) (descriptor : ℕ → ℕ) (x : Row) (h : firstRow va
   unfolding firstRow firstVars firstVar
   first-other i a l = is-top (x .variable i) (rw (le-ltb i args a) at (all-elim (firstVar args descriptor x) vars (search (and-fst, and-snd)) i l))
 
+place : (b : List ℕ) {c l : ℕ} → Address (programOf b) c l → program.Address (programOf b) c l
+place b a = record { class-known = a .class-known; first = a .first; last = a .last }
+
 -- THEOREM: a bundle with verdict 0 is accepted
 pub accepted : (b : List ℕ) → verdictOf b .number ≡ 0 → Accepted (programOf b) (rowsOf b)
 unfolding programOf methodAt methodOf variableAt stackAt entryFrom
@@ -89,13 +93,13 @@ accepted b e =
     let w : WellFormed (programOf b) = well-formed b (agrees-back b e) in
     record {
       formed = w;
-      depth-limit = λ c l a. formed-depth _ _ (rowsOf b c l) (verdict-zero b e (form c l) (a .class-known, a .first, a .last));
-      variable-type = λ c l i a. formed-variable _ _ (rowsOf b c l) (verdict-zero b e (form c l) (a .class-known, a .first, a .last)) i;
-      stack-type = λ c l j a. formed-stack _ _ (rowsOf b c l) (verdict-zero b e (form c l) (a .class-known, a .first, a .last)) j;
+      depth-limit = λ c l a. formed-depth _ _ (rowsOf b c l) (verdict-zero b e (form c l) (place b a));
+      variable-type = λ c l i a. formed-variable _ _ (rowsOf b c l) (verdict-zero b e (form c l) (place b a)) i;
+      stack-type = λ c l j a. formed-stack _ _ (rowsOf b c l) (verdict-zero b e (form c l) (place b a)) j;
       variable-end = λ c l i. entry-end _ _ _ _ _;
       stack-end = λ c l j. entry-end _ _ _ _ _;
       first-depth = λ c l. first-depth _ _ _ (rowsOf b c 1) (verdict-zero b e (first c) l);
       first-argument = λ c i l a. first-argument _ _ _ (rowsOf b c 1) (verdict-zero b e (first c) l) i a (omega (arith, w .args-vars c l));
       first-other = λ c i l a. first-other _ _ _ (rowsOf b c 1) (verdict-zero b e (first c) l) i a;
-      rule = λ c l a. verdict-zero b e (rule c l) (a .class-known, a .first, a .last);
+      rule = λ c l a. verdict-zero b e (rule c l) (place b a);
     }
