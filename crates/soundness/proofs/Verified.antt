@@ -10,23 +10,18 @@ use Rattle.ground.specs.Bytes.{at}
 use Rattle.ground.specs.Chain.{refuse}
 use Rattle.ground.proofs.Bools.{and-fst, and-snd}
 use Rattle.ground.proofs.Bounded.{all-elim}
-use Rattle.bundle.specs.Container.{classes, classAt, partOf}
-use Rattle.bundle.specs.Program.{methodOf, methodAt, programOf}
-use Rattle.bundle.specs.Program as program
+use Rattle.bundle.specs.Program.{programOf}
 use Rattle.structure.proofs.Structured.{WellFormed, well-formed}
 use Rattle.entries.specs.Entries.{Entry, Int, Top, Ref, Blank, Malformed, minEnd, zeros, pairOk, entryOf, entryFrom, endOf, isTop, isType, argumentEntry}
 use Rattle.entries.specs.Fits.{entryFits}
-use Rattle.rows.specs.Rows.{Row, variableAt, stackAt, rowAt}
+use Rattle.rows.specs.Rows.{Row, variableAt, stackAt}
+use Rattle.rows.specs.Typed.{typedOf}
 use Rattle.forms.specs.Forms.{varFormed, entryFormed, varsFormed, stackFormed, rowFormed, firstVar, firstVars, firstRow}
 use Rattle.verifier.specs.Verdict.{verdictOf}
 use Rattle.verifier.specs.Places.{form, first, rule}
 use Rattle.verifier.proofs.FirstBroken.{verdict-zero, agrees-back}
 use Rattle.soundness.proofs.Kind.{nope}
-use Rattle.soundness.proofs.Accepted.{Address, Accepted}
-
--- the rows of a bundle, by class and address
-abbrev pub rowsOf : List ℕ → ℕ → ℕ → Row
-rowsOf b c l = rowAt (classes b) (classAt b c) (partOf b (classAt b c)) l
+use Rattle.soundness.proofs.Accepted.{Accepted}
 
 -- ---- an entry's end, as it is stored, is at least 1
 low : (n c d e : ℕ) → pairOk n c d e ≡ true → 1 ≤ e
@@ -83,23 +78,20 @@ module _ (vars args : ℕ) (descriptor : ℕ → ℕ) (x : Row) (h : firstRow va
   unfolding firstRow firstVars firstVar
   first-other i a l = is-top (x .variable i) (rw (le-ltb i args a) at (all-elim (firstVar args descriptor x) vars (search (and-fst, and-snd)) i l))
 
-place : (b : List ℕ) {c l : ℕ} → Address (programOf b) c l → program.Address (programOf b) c l
-place b a = record { class-known = a .class-known; first = a .first; last = a .last }
-
 -- THEOREM: a bundle with verdict 0 is accepted
-pub accepted : (b : List ℕ) → verdictOf b .number ≡ 0 → Accepted (programOf b) (rowsOf b)
-unfolding programOf methodAt methodOf variableAt stackAt entryFrom
+pub accepted : (b : List ℕ) → verdictOf b .number ≡ 0 → Accepted (typedOf b)
+unfolding programOf variableAt stackAt entryFrom
 accepted b e =
     let w : WellFormed (programOf b) = well-formed b (agrees-back b e) in
     record {
       formed = w;
-      depth-limit = λ c l a. formed-depth _ _ (rowsOf b c l) (verdict-zero b e (form c l) (place b a));
-      variable-type = λ c l i a. formed-variable _ _ (rowsOf b c l) (verdict-zero b e (form c l) (place b a)) i;
-      stack-type = λ c l j a. formed-stack _ _ (rowsOf b c l) (verdict-zero b e (form c l) (place b a)) j;
+      depth-limit = λ c l a. formed-depth _ _ (typedOf b .row c l) (verdict-zero b e (form c l) a);
+      variable-type = λ c l i a. formed-variable _ _ (typedOf b .row c l) (verdict-zero b e (form c l) a) i;
+      stack-type = λ c l j a. formed-stack _ _ (typedOf b .row c l) (verdict-zero b e (form c l) a) j;
       variable-end = λ c l i. entry-end _ _ _ _ _;
       stack-end = λ c l j. entry-end _ _ _ _ _;
-      first-depth = λ c l. first-depth _ _ _ (rowsOf b c 1) (verdict-zero b e (first c) l);
-      first-argument = λ c i l a. first-argument _ _ _ (rowsOf b c 1) (verdict-zero b e (first c) l) i a (omega (arith, w .args-vars c l));
-      first-other = λ c i l a. first-other _ _ _ (rowsOf b c 1) (verdict-zero b e (first c) l) i a;
-      rule = λ c l a. verdict-zero b e (rule c l) (place b a);
+      first-depth = λ c l. first-depth _ _ _ (typedOf b .row c 1) (verdict-zero b e (first c) l);
+      first-argument = λ c i l a. first-argument _ _ _ (typedOf b .row c 1) (verdict-zero b e (first c) l) i a (omega (arith, w .args-vars c l));
+      first-other = λ c i l a. first-other _ _ _ (typedOf b .row c 1) (verdict-zero b e (first c) l) i a;
+      rule = λ c l a. verdict-zero b e (rule c l) a;
     }
