@@ -13,8 +13,8 @@ use Rattle.instructions.specs.declared.Var.{Var}
 use Rattle.instructions.specs.declared.Instruction.{Instruction}
 use Rattle.instructions.specs.declared.Instruction.the-variants.{Inc, Pop, Push0, Load, Store, If, Enter, Exit, New, Start, Throw, Return, Nothing}
 use Rattle.instructions.specs.Table.{targetOk, endsCode, lastOk, instructionOk}
-use Rattle.bundle.specs.Program.{Program}
-use Rattle.rows.specs.Rows.{Row}
+use Rattle.bundle.specs.Program.{Address}
+use Rattle.rows.specs.Typed.{Typed}
 use Rattle.rules.specs.Rule.{rule, holds}
 use Rattle.rules.specs.Rules.{ruleOf}
 use Rattle.values.specs.Values.{objectOf}
@@ -30,7 +30,7 @@ use Rattle.machine.specs.Machine.{runOf}
 use Rattle.machine.proofs.Refusals.{draws}
 use Rattle.soundness.proofs.Held.{held}
 use Rattle.soundness.proofs.Kind.{nope}
-use Rattle.soundness.proofs.Accepted.{Address, Accepted}
+use Rattle.soundness.proofs.Accepted.{Accepted}
 use Rattle.soundness.proofs.Invariant.{Inv}
 use Rattle.soundness.proofs.Moves.{Good, given, Fine}
 use Rattle.soundness.proofs.Stack.{inc-fine, pop-fine, push0-fine, load-fine, store-fine, if-fine}
@@ -48,7 +48,7 @@ next-address code l x h e k = go (eqb l code) refl (rw e at h)
     go true q f = nope f
     go false q f = omega (arith, eqb-false l code q)
 
-module _ (P : Program) (R : ℕ → ℕ → Row) (A : Accepted P R) (s : State) (inv : Inv P R s) (i : ℕ) (li : i < 8) (lv : threadAt s i .live ≡ true) where
+module _ (P : Typed) (A : Accepted P) (s : State) (inv : Inv P s) (i : ℕ) (li : i < 8) (lv : threadAt s i .live ≡ true) where
   abbrev T : Thread
   T = threadAt s i
 
@@ -59,63 +59,63 @@ module _ (P : Program) (R : ℕ → ℕ → Row) (A : Accepted P R) (s : State) 
   L = threadAt s i .at .0
 
   abbrev vars : ℕ
-  vars = P .method (threadAt s i .class) .vars
+  vars = P .program .method (threadAt s i .class) .vars
 
   abbrev code : ℕ
-  code = P .method (threadAt s i .class) .code
+  code = P .program .method (threadAt s i .class) .code
 
-  here : Address P C L
+  here : Address (P .program) C L
   here = inv .thread i li .live lv .address
 
-  next : (x : Instruction) → endsCode x ≡ false → instructionOk (P .classes) vars code L x ≡ true → Address P C (L + 1)
+  next : (x : Instruction) → endsCode x ≡ false → instructionOk (P .program .classes) vars code L x ≡ true → Address (P .program) C (L + 1)
   unfolding instructionOk
   next x e h =
       record { class-known = here .class-known; first = omega arith; last = next-address code L x (search and-snd) e (here .last) }
 
-  exec-fine : (fails : Bool) (x : Instruction) → instructionOk (P .classes) vars code L x ≡ true → holds vars (ruleOf P vars (R C) L x) ≡ true
-      → Fine P R s i (faultOf P s i T (P .method C) fails x) (waitOf s i T x) (moveOf P s i T (P .method C) fails x)
+  exec-fine : (fails : Bool) (x : Instruction) → instructionOk (P .program .classes) vars code L x ≡ true → holds vars (ruleOf (P .program) vars (P .row C) L x) ≡ true
+      → Fine P s i (faultOf (P .program) s i T (P .program .method C) fails x) (waitOf s i T x) (moveOf (P .program) s i T (P .program .method C) fails x)
   unfolding instructionOk targetOk
-  exec-fine fails Inc h r = inc-fine P R A s inv i li lv (next Inc refl h) r
-  exec-fine fails Pop h r = pop-fine P R A s inv i li lv (next Pop refl h) r
-  exec-fine fails Push0 h r = push0-fine P R A s inv i li lv (next Push0 refl h) r
-  exec-fine fails (Load v) h r = load-fine P R A s inv i li lv v (ltb-true _ _ (search and-fst)) (next (Load v) refl h) r
-  exec-fine fails (Store v) h r = store-fine P R A s inv i li lv v (ltb-true _ _ (search and-fst)) (next (Store v) refl h) r
+  exec-fine fails Inc h r = inc-fine P A s inv i li lv (next Inc refl h) r
+  exec-fine fails Pop h r = pop-fine P A s inv i li lv (next Pop refl h) r
+  exec-fine fails Push0 h r = push0-fine P A s inv i li lv (next Push0 refl h) r
+  exec-fine fails (Load v) h r = load-fine P A s inv i li lv v (ltb-true _ _ (search and-fst)) (next (Load v) refl h) r
+  exec-fine fails (Store v) h r = store-fine P A s inv i li lv v (ltb-true _ _ (search and-fst)) (next (Store v) refl h) r
   exec-fine fails (If a) h r =
-      if-fine P R A s inv i li lv a (next (If a) refl h)
+      if-fine P A s inv i li lv a (next (If a) refl h)
       (record { class-known = here .class-known; first = leb-true _ _ (search (and-fst, and-snd)); last = leb-true _ _ (search (and-fst, and-snd)) }) r
-  exec-fine fails (Enter v) h r = enter-fine P R A s inv i li lv v (ltb-true _ _ (search and-fst)) (next (Enter v) refl h) r
-  exec-fine fails (Exit v) h r = exit-fine P R A s inv i li lv v (ltb-true _ _ (search and-fst)) (next (Exit v) refl h) r
+  exec-fine fails (Enter v) h r = enter-fine P A s inv i li lv v (ltb-true _ _ (search and-fst)) (next (Enter v) refl h) r
+  exec-fine fails (Exit v) h r = exit-fine P A s inv i li lv v (ltb-true _ _ (search and-fst)) (next (Exit v) refl h) r
   exec-fine fails (New c a) h r =
-      new-fine P R A s inv i li lv c a fails (ltb-true _ _ (search (and-fst, and-snd))) (leb-true _ _ (search (and-fst, and-snd))) (next (New c a) refl h) r
-  exec-fine fails (Start c) h r = start-fine P R A s inv i li lv c (ltb-true _ _ (search and-fst)) (next (Start c) refl h) r
-  exec-fine fails (Throw a) h r = athrow-fine P R A s inv i li lv a (leb-true _ _ (search and-fst)) r
-  exec-fine fails Return h r = return-fine P R A s inv i li lv r
+      new-fine P A s inv i li lv c a fails (ltb-true _ _ (search (and-fst, and-snd))) (leb-true _ _ (search (and-fst, and-snd))) (next (New c a) refl h) r
+  exec-fine fails (Start c) h r = start-fine P A s inv i li lv c (ltb-true _ _ (search and-fst)) (next (Start c) refl h) r
+  exec-fine fails (Throw a) h r = athrow-fine P A s inv i li lv a (leb-true _ _ (search and-fst)) r
+  exec-fine fails Return h r = return-fine P A s inv i li lv r
   exec-fine fails Nothing h r = nope (held vars (rule false []) r .0)
 
-  table-here : instructionOk (P .classes) vars code L (P .method C .instruction L) ≡ true
+  table-here : instructionOk (P .program .classes) vars code L (P .program .method C .instruction L) ≡ true
   table-here = A .formed .table C L (here .class-known) (here .first) (here .last)
 
   abbrev X : Instruction
-  X = P .method C .instruction L
+  X = P .program .method C .instruction L
 
-  fine : (fails : Bool) → Fine P R s i (faultOf P s i T (P .method C) fails X) (waitOf s i T X) (moveOf P s i T (P .method C) fails X)
+  fine : (fails : Bool) → Fine P s i (faultOf (P .program) s i T (P .program .method C) fails X) (waitOf s i T X) (moveOf (P .program) s i T (P .program .method C) fails X)
   fine fails = exec-fine fails X table-here (A .rule C L here)
 
   -- THEOREM: an instruction of a live thread draws no fault
-  pub no-fault : (fails : Bool) → faultOf P s i T (P .method C) fails X ≡ 0
+  pub no-fault : (fails : Bool) → faultOf (P .program) s i T (P .program .method C) fails X ≡ 0
   no-fault fails = fine fails .no-fault
 
   -- THEOREM: where it doesn't wait, its move is a good step
-  pub move-good : (fails : Bool) → waitOf s i T X ≡ 0 → Good P R s i (moveOf P s i T (P .method C) fails X)
+  pub move-good : (fails : Bool) → waitOf s i T X ≡ 0 → Good P s i (moveOf (P .program) s i T (P .program .method C) fails X)
   move-good fails = fine fails .good
 
-  drawn : (ok : Bool) (n : ℕ) → 3 ≤ n → n ≤ 5 → test ok n 0 ≢ 0 → Good P R s i (refused (test ok n 0) s)
+  drawn : (ok : Bool) (n : ℕ) → 3 ≤ n → n ≤ 5 → test ok n 0 ≢ 0 → Good P s i (refused (test ok n 0) s)
   unfolding refuse
   drawn true n l k d = absurd (d refl)
-  drawn false n l k d = given P R s i n l k inv
+  drawn false n l k d = given P s i n l k inv
 
   -- one that waits answers 3 or 4, and changes nothing
-  waits : (x : Instruction) → waitOf s i T x ≢ 0 → Good P R s i (refused (waitOf s i T x) s)
+  waits : (x : Instruction) → waitOf s i T x ≢ 0 → Good P s i (refused (waitOf s i T x) s)
   waits Inc n = absurd (n refl)
   waits Pop n = absurd (n refl)
   waits Push0 n = absurd (n refl)
@@ -131,14 +131,14 @@ module _ (P : Program) (R : ℕ → ℕ → Row) (A : Accepted P R) (s : State) 
   waits Nothing n = absurd (n refl)
 
   -- THEOREM: every step of a live thread is good
-  pub run-good : (fails : Bool) → Good P R s i (runOf P s i T fails)
+  pub run-good : (fails : Bool) → Good P s i (runOf (P .program) s i T fails)
   unfolding runOf
-  run-good fails = draws (Good P R s i) s _ _ (λ n. absurd (n (no-fault fails))) (λ _. draws (Good P R s i) s _ _ (waits X) (move-good fails))
+  run-good fails = draws (Good P s i) s _ _ (λ n. absurd (n (no-fault fails))) (λ _. draws (Good P s i) s _ _ (waits X) (move-good fails))
 
   -- at monitorexit, the thread holds the object
-  pub exit-held : (v : Var) → P .method C .instruction L ≡ Exit v → 0 < countOf (s .counts) i (objectOf (varOf T (v .0)))
+  pub exit-held : (v : Var) → P .program .method C .instruction L ≡ Exit v → 0 < countOf (s .counts) i (objectOf (varOf T (v .0)))
   unfolding instructionOk
   exit-held v q =
-      let h : instructionOk (P .classes) vars code L (Exit v) ≡ true = rw q at table-here in
-      let r : holds vars (ruleOf P vars (R C) L (Exit v)) ≡ true = rw q at (A .rule C L here) in
-      leaves-held P R A s inv i li lv v (ltb-true _ _ (search and-fst)) r
+      let h : instructionOk (P .program .classes) vars code L (Exit v) ≡ true = rw q at table-here in
+      let r : holds vars (ruleOf (P .program) vars (P .row C) L (Exit v)) ≡ true = rw q at (A .rule C L here) in
+      leaves-held P A s inv i li lv v (ltb-true _ _ (search and-fst)) r

@@ -100,5 +100,5 @@ module _ (b : List ℕ) (e : structureOf b .number ≡ 0) where
         some-code = λ c l. class-limits c l .some-code;
         code-256 = λ c l. class-limits c l .code-256;
         descriptor = λ c i l h. descriptor-is (classes b) _ i (all-elim _ (classAt b c .args) (structure-zero b e (descriptors c) l) i h);
-        table = λ c l h a z. structure-zero b e (instruction c l) (h, a, z);
+        table = λ c l h a z. structure-zero b e (instruction c l) (record { class-known = h; first = a; last = z });
       }
