@@ -7,13 +7,13 @@ use lib.ListN.{getD-replicate}
 use lib.Dec.{ltb, leb, eqb}
 use borrow.Author.Tests.{ltb-true, leb-true, not-true}
 use Rattle.ground.specs.Chain.{refuse}
-use Rattle.ground.proofs.Bools.{and-fst, and-snd, never}
+use Rattle.ground.proofs.Bools.{and-fst, and-snd}
 use Rattle.ground.proofs.Bounded.{first-is}
 use Rattle.instructions.specs.declared.Addr.{Addr}
 use Rattle.instructions.specs.declared.Var.{Var}
 use Rattle.instructions.specs.declared.Instruction.{Instruction}
 use Rattle.instructions.specs.declared.Instruction.the-variants.{Inc, Pop, Push0, Load, Store, If, Enter, Exit, New, Start, Throw, Return, Nothing}
-use Rattle.instructions.specs.Table.{tableOk, instructionOk}
+use Rattle.instructions.proofs.Table.{InstructionFits}
 use Rattle.bundle.specs.Container.{exception}
 use Rattle.bundle.specs.Program.{Method, Program, programOf}
 use Rattle.structure.proofs.Structured.{WellFormed}
@@ -148,33 +148,29 @@ module _ (P : Program) (s : State) (h : Clean P s) (i : ℕ) (t : Thread) (p : C
       begun l = thread-clean P s h (lowestFree s) _ (started-clean P (threadAt s (lowestFree s)) t k args b (free-idle s l) (h .clean-at (lowestFree s) l))
 
   -- by what the table says of the instruction
-  arm-clean : WellFormed P → (fails : Bool) (x : Instruction) → tableOk (P .classes) (method .vars) (method .code) x ≡ true
+  exec-clean : WellFormed P → (fails : Bool) (x : Instruction) → InstructionFits (P .classes) (method .vars) (method .code) (t .at .0) x
       → Cleans P (execOf P s i t method fails x)
-  arm-clean wf fails Inc e = inc-clean
-  arm-clean wf fails Pop e = pop-clean
-  arm-clean wf fails Push0 e = push0-clean (method .limit)
-  arm-clean wf fails (Load v) e = load-clean (method .limit) v
-  arm-clean wf fails (Store v) e = store-clean v (ltb-true _ _ e)
-  arm-clean wf fails (If a) e = if-clean a
-  arm-clean wf fails (Enter v) e = enter-clean v
-  arm-clean wf fails (Exit v) e = exit-clean v
-  arm-clean wf fails (New k a) e = new-clean (method .limit) k a fails
-  arm-clean wf fails (Start k) e = start-clean k (P .method k .args) (P .method k .descriptor) (wf .args-vars k (ltb-true _ _ e))
-  arm-clean wf fails (Throw a) e = athrow-clean (P .exception) (method .limit) a
-  arm-clean wf fails Return e = end-clean 1
-  arm-clean wf fails Nothing e = never e refl
-
-  exec-clean : WellFormed P → (fails : Bool) (x : Instruction) → instructionOk (P .classes) (method .vars) (method .code) (t .at .0) x ≡ true
-      → Cleans P (execOf P s i t method fails x)
-  unfolding instructionOk
-  exec-clean wf fails x e = arm-clean wf fails x (and-fst (tableOk (P .classes) (method .vars) (method .code) x) _ e)
+  exec-clean wf fails Inc e = inc-clean
+  exec-clean wf fails Pop e = pop-clean
+  exec-clean wf fails Push0 e = push0-clean (method .limit)
+  exec-clean wf fails (Load v) e = load-clean (method .limit) v
+  exec-clean wf fails (Store v) e = store-clean v (e .0)
+  exec-clean wf fails (If a) e = if-clean a
+  exec-clean wf fails (Enter v) e = enter-clean v
+  exec-clean wf fails (Exit v) e = exit-clean v
+  exec-clean wf fails (New k a) e = new-clean (method .limit) k a fails
+  exec-clean wf fails (Start k) e = start-clean k (P .method k .args) (P .method k .descriptor) (wf .args-vars k (e .0))
+  exec-clean wf fails (Throw a) e = athrow-clean (P .exception) (method .limit) a
+  exec-clean wf fails Return e = end-clean 1
+  exec-clean wf fails Nothing e = absurd e
 
 runOf-clean : (P : Program) → WellFormed P → (s : State) → Clean P s → Belongs P s → (i : ℕ) → i < 8 → threadAt s i .live ≡ true → (fails : Bool)
     → Cleans P (runOf P s i (threadAt s i) fails)
 unfolding runOf
 runOf-clean P wf s h g i l a fails =
     let p = g .live-placed i l a in
-    exec-clean P s h i (threadAt s i) (clean-live P (threadAt s i) a (h .clean-at i l)) wf fails _
+    exec-clean P s h i (threadAt s i) (clean-live P (threadAt s i) a (h .clean-at i l)) wf fails
+    (P .method (threadAt s i .class) .instruction (threadAt s i .at .0))
     (wf .table (threadAt s i .class) (threadAt s i .at .0) (p .class-known) (p .address-first) (p .address-last))
 
 step-cleans : (b : List ℕ) (s : State) (i : ℕ) (fails : Bool) → Clean (programOf b) s → Cleans (programOf b) (stepOf b s i fails)

@@ -17,7 +17,7 @@ use Rattle.instructions.specs.declared.Addr.{Addr}
 use Rattle.instructions.specs.declared.Var.{Var}
 use Rattle.instructions.specs.declared.Instruction.{Instruction}
 use Rattle.instructions.specs.declared.Instruction.the-variants.{Inc, Pop, Push0, Load, Store, If, Enter, Exit, New, Start, Throw, Return, Nothing}
-use Rattle.instructions.specs.Table.{targetOk, tableOk, endsCode, lastOk, instructionOk}
+use Rattle.instructions.proofs.Table.{InstructionFits}
 use Rattle.bundle.specs.Program.{Method, Program, programOf}
 use Rattle.structure.proofs.Structured.{WellFormed}
 use Rattle.values.specs.declared.Slot.{Slot}
@@ -48,23 +48,9 @@ pub unless : {P : Program} (s : State) → Belongs P s → (ok : Bool) (n : ℕ)
 unfolding refuse
 unless s h ok n rest k = either ok rest (refused n s) k (λ e. record { stays = h })
 
--- an instruction that is no athrow and no return does not stand at the last address
-not-last : (code l : ℕ) (x : Instruction) → l ≤ code → endsCode x ≡ false → lastOk code l x ≡ true → l < code
-unfolding lastOk
-not-last code l x k e f = go (eqb l code) refl
-  where
-    go : (t : Bool) → eqb l code ≡ t → l < code
-    go true q = never (or-right (not (eqb l code)) (endsCode x) f (rw q)) e
-    go false q = omega (arith, eqb-false l code q)
-
 started-live : (old t : Thread) (c args : ℕ) → started old t c args .live ≡ true
 unfolding started
 started-live old t c args = refl
-
--- a target of the table
-target : {code : ℕ} (a : Addr) → targetOk code a ≡ true → (1 ≤ a .0) × (a .0 ≤ code)
-unfolding targetOk
-target {code} a e = (leb-true 1 (a .0) (and-fst (leb 1 (a .0)) _ e), leb-true (a .0) code (and-snd (leb 1 (a .0)) _ e))
 
 module _ (P : Program) (wf : WellFormed P) (s : State) (h : Belongs P s) (i : ℕ) (l : i < 8) (t : Thread) (live : t .live ≡ true) (p : Placed P (s .objects) t) where
   abbrev method : Method
@@ -230,35 +216,28 @@ module _ (P : Program) (wf : WellFormed P) (s : State) (h : Belongs P s) (i : �
 
   -- by what the table says of the instruction and of the last address
   exec-stays : threadAt s i .live ≡ true → (fails : Bool) (x : Instruction)
-      → instructionOk (P .classes) (method .vars) (method .code) (t .at .0) x ≡ true → Stays P (execOf P s i t method fails x)
-  unfolding instructionOk
-  exec-stays a fails x e = go x (and-fst (tableOk (P .classes) (method .vars) (method .code) x) _ e) (and-snd (tableOk (P .classes) (method .vars) (method .code) x) _ e)
-    where
-      next : (x : Instruction) → endsCode x ≡ false → lastOk (method .code) (t .at .0) x ≡ true → t .at .0 < method .code
-      next x e f = not-last (method .code) (t .at .0) x (p .address-last) e f
-
-      go : (x : Instruction) → tableOk (P .classes) (method .vars) (method .code) x ≡ true → lastOk (method .code) (t .at .0) x ≡ true
-          → Stays P (execOf P s i t method fails x)
-      go Inc e f = inc-stays (next Inc refl f)
-      go Pop e f = pop-stays (next Pop refl f)
-      go Push0 e f = push0-stays (next Push0 refl f)
-      go (Load v) e f = load-stays (next (Load v) refl f) v (ltb-true _ _ e)
-      go (Store v) e f = store-stays (next (Store v) refl f) v
-      go (If b) e f = if-stays (next (If b) refl f) b (target b e .0) (target b e .1)
-      go (Enter v) e f = enter-stays a (next (Enter v) refl f) v (ltb-true _ _ e)
-      go (Exit v) e f = exit-stays a (next (Exit v) refl f) v (ltb-true _ _ e)
-      go (New c b) e f = new-stays (next (New c b) refl f) (method .vars) c (ltb-true _ _ (and-fst (ltb c (P .classes)) _ e)) b (leb-true _ _ (and-snd (ltb c (P .classes)) _ e)) fails
-      go (Start c) e f = start-stays (next (Start c) refl f) c (ltb-true _ _ e)
-      go (Throw b) e f = athrow-stays (method .vars) b (leb-true _ _ e)
-      go Return e f = end-stays (method .vars) 1
-      go Nothing e f = never e refl
+      → InstructionFits (P .classes) (method .vars) (method .code) (t .at .0) x → Stays P (execOf P s i t method fails x)
+  exec-stays a fails Inc e = inc-stays e
+  exec-stays a fails Pop e = pop-stays e
+  exec-stays a fails Push0 e = push0-stays e
+  exec-stays a fails (Load v) e = load-stays (e .1) v (e .0)
+  exec-stays a fails (Store v) e = store-stays (e .1) v
+  exec-stays a fails (If b) e = if-stays (e .1) b (e .0 .0) (e .0 .1)
+  exec-stays a fails (Enter v) e = enter-stays a (e .1) v (e .0)
+  exec-stays a fails (Exit v) e = exit-stays a (e .1) v (e .0)
+  exec-stays a fails (New c b) e = new-stays (e .2) (method .vars) c (e .0) b (e .1) fails
+  exec-stays a fails (Start c) e = start-stays (e .1) c (e .0)
+  exec-stays a fails (Throw b) e = athrow-stays (method .vars) b e
+  exec-stays a fails Return e = end-stays (method .vars) 1
+  exec-stays a fails Nothing e = absurd e
 
 run-stays : (P : Program) → WellFormed P → (s : State) → Belongs P s → (i : ℕ) → i < 8 → threadAt s i .live ≡ true → (fails : Bool)
     → Stays P (runOf P s i (threadAt s i) fails)
 unfolding runOf
 run-stays P wf s h i l a fails =
     let p = h .live-placed i l a in
-    exec-stays P wf s h i l (threadAt s i) a p a fails _ (wf .table (threadAt s i .class) (threadAt s i .at .0) (p .class-known) (p .address-first) (p .address-last))
+    exec-stays P wf s h i l (threadAt s i) a p a fails (P .method (threadAt s i .class) .instruction (threadAt s i .at .0))
+    (wf .table (threadAt s i .class) (threadAt s i .at .0) (p .class-known) (p .address-first) (p .address-last))
 
 step-stays : (b : List ℕ) (s : State) (i : ℕ) (fails : Bool) → Belongs (programOf b) s → Stays (programOf b) (stepOf b s i fails)
 unfolding stepOf
