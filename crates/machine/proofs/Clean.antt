@@ -12,7 +12,7 @@ use Rattle.instructions.specs.declared.Addr.{Addr}
 use Rattle.instructions.specs.declared.Var.{Var}
 use Rattle.instructions.specs.declared.Instruction.{Instruction}
 use Rattle.instructions.specs.declared.Instruction.the-variants.{Inc, Pop, Push0, Load, Store, If, Enter, Exit, New, Start, Throw, Return, Nothing}
-use Rattle.instructions.specs.Table.{tableOk, instructionOk}
+use Rattle.instructions.proofs.Table.{InstructionFits}
 use Rattle.bundle.specs.Container.{exception}
 use Rattle.bundle.specs.Program.{Method, Program, programOf}
 use Rattle.structure.proofs.Structured.{WellFormed}
@@ -105,24 +105,23 @@ module _ (P : Program) (s : State) (h : Clean P s) (i : ℕ) (t : Thread) (p : C
       begun = thread-clean P s h (lowestFree s) _ (started-clean P (threadAt s (lowestFree s)) t k args b (free-idle s l) (h .clean-at (lowestFree s) l))
 
   -- by what the table says of the instruction
-  move-clean : WellFormed P → (fails : Bool) (x : Instruction) → tableOk (P .classes) (method .vars) (method .code) x ≡ true
+  move-clean : WellFormed P → (fails : Bool) (x : Instruction) → InstructionFits (P .classes) (method .vars) (method .code) (t .at .0) x
       → faultOf P s i t method fails x ≡ 0 → waitOf s i t x ≡ 0 → Cleans P (moveOf P s i t method fails x)
   move-clean wf fails Inc e f w = inc-clean f
   move-clean wf fails Pop e f w = pop-clean _
   move-clean wf fails Push0 e f w = push-clean zeroSlot
   move-clean wf fails (Load v) e f w = push-clean (varOf t (v .0))
-  move-clean wf fails (Store v) e f w = store-clean v (ltb-true _ _ e)
+  move-clean wf fails (Store v) e f w = store-clean v (e .0)
   move-clean wf fails (If a) e f w = either (Cleans P) (jumps (topOf t)) _ _ (λ _. pop-clean _) (λ _. pop-clean _)
   move-clean wf fails (Enter v) e f w = counted-clean (lockOf t v) _
   move-clean wf fails (Exit v) e f w = counted-clean (lockOf t v) _
   move-clean wf fails (New k a) e f w = either (Cleans P) (newFails s fails) _ _ (λ _. throw-clean a (refSlot 0)) (λ _. make-clean k)
-  move-clean wf fails (Start k) e f w = start-clean k (P .method k .args) (wf .args-vars k (ltb-true _ _ e)) w
+  move-clean wf fails (Start k) e f w = start-clean k (P .method k .args) (wf .args-vars k (e .0)) w
   move-clean wf fails (Throw a) e f w = throw-clean a (topOf t)
   move-clean wf fails Return e f w = end-clean 1
-  move-clean wf fails Nothing e f w = never e refl
+  move-clean wf fails Nothing e f w = absurd e
 
 step-cleans : (b : List ℕ) (s : State) (i : ℕ) (fails : Bool) → Clean (programOf b) s → Cleans (programOf b) (stepOf b s i fails)
-unfolding instructionOk
 step-cleans b s i fails h = step-by (Cleans (programOf b)) b s i fails (λ n. record { cleans = h }) go
   where
     go : Moving b s i fails → Cleans (programOf b) (moveOf (programOf b) s i (threadAt s i) (methodHere b s i) fails (instructionHere b s i))
@@ -130,7 +129,7 @@ step-cleans b s i fails h = step-by (Cleans (programOf b)) b s i fails (λ n. re
         let p = m .belongs .live-placed i (m .thread-8) (m .live) in
         let e = m .formed .table (threadAt s i .class) (threadAt s i .at .0) (p .class-known) (p .address-first) (p .address-last) in
         move-clean (programOf b) s h i (threadAt s i) (clean-live (programOf b) (threadAt s i) (m .live) (h .clean-at i (m .thread-8))) (m .formed) fails (instructionHere b s i)
-        (and-fst (tableOk _ _ _ (instructionHere b s i)) _ e) (m .no-fault) (m .no-wait)
+        e (m .no-fault) (m .no-wait)
 
 -- THEOREM: where every place out of use is integer 0, it is so after a step, whatever the step answers; so too with 17 and 18, which give back the state as given.
 pub step-clean : (b : List ℕ) (s : State) (i : ℕ) (fails : Bool) → Clean (programOf b) s → Clean (programOf b) (stepOf b s i fails .state)

@@ -16,7 +16,7 @@ use Rattle.instructions.specs.declared.Addr.{Addr}
 use Rattle.instructions.specs.declared.Var.{Var}
 use Rattle.instructions.specs.declared.Instruction.{Instruction}
 use Rattle.instructions.specs.declared.Instruction.the-variants.{Inc, Pop, Push0, Load, Store, If, Enter, Exit, New, Start, Throw, Return, Nothing}
-use Rattle.instructions.specs.Table.{targetOk, tableOk, endsCode, lastOk, instructionOk}
+use Rattle.instructions.proofs.Table.{InstructionFits}
 use Rattle.bundle.specs.Program.{Method, Program, programOf}
 use Rattle.structure.proofs.Structured.{WellFormed}
 use Rattle.values.specs.declared.Slot.{Slot}
@@ -39,23 +39,9 @@ use Rattle.machine.proofs.Changes.{grown, thread-belongs, count-belongs
 pub record Stays (P : Program) (r : Stepped) : Type 0 where
   pub stays : Belongs P (r .state)
 
--- an instruction that is no athrow and no return does not stand at the last address
-not-last : (code l : ℕ) (x : Instruction) → l ≤ code → endsCode x ≡ false → lastOk code l x ≡ true → l < code
-unfolding lastOk
-not-last code l x k e f = go (eqb l code) refl
-  where
-    go : (t : Bool) → eqb l code ≡ t → l < code
-    go true q = never (or-right (not (eqb l code)) (endsCode x) f (rw q)) e
-    go false q = omega (arith, eqb-false l code q)
-
 started-live : (old t : Thread) (c args : ℕ) → started old t c args .live ≡ true
 unfolding started
 started-live old t c args = refl
-
--- a target of the table
-target : {code : ℕ} (a : Addr) → targetOk code a ≡ true → (1 ≤ a .0) × (a .0 ≤ code)
-unfolding targetOk
-target {code} a e = (leb-true 1 (a .0) (and-fst (leb 1 (a .0)) _ e), leb-true (a .0) code (and-snd (leb 1 (a .0)) _ e))
 
 module _ (P : Program) (wf : WellFormed P) (s : State) (h : Belongs P s) (i : ℕ) (l : i < 8) (t : Thread) (live : t .live ≡ true) (p : Placed P (s .objects) t) where
   abbrev method : Method
@@ -198,31 +184,23 @@ module _ (P : Program) (wf : WellFormed P) (s : State) (h : Belongs P s) (i : �
 
   -- by what the table says of the instruction and of the last address
   move-stays : threadAt s i .live ≡ true → (fails : Bool) (x : Instruction)
-      → tableOk (P .classes) (method .vars) (method .code) x ≡ true → lastOk (method .code) (t .at .0) x ≡ true
+      → InstructionFits (P .classes) (method .vars) (method .code) (t .at .0) x
       → faultOf P s i t method fails x ≡ 0 → waitOf s i t x ≡ 0 → Stays P (moveOf P s i t method fails x)
-  move-stays a fails x e q f w = go x e q f w
-    where
-      next : (x : Instruction) → endsCode x ≡ false → lastOk (method .code) (t .at .0) x ≡ true → t .at .0 < method .code
-      next x e q = not-last (method .code) (t .at .0) x (p .address-last) e q
-
-      go : (x : Instruction) → tableOk (P .classes) (method .vars) (method .code) x ≡ true → lastOk (method .code) (t .at .0) x ≡ true
-          → faultOf P s i t method fails x ≡ 0 → waitOf s i t x ≡ 0 → Stays P (moveOf P s i t method fails x)
-      go Inc e q f w = inc-stays (next Inc refl q) f
-      go Pop e q f w = let k = next Pop refl q in pop-stays (t .at .0 + 1) (omega arith) (omega arith)
-      go Push0 e q f w = push-stays (next Push0 refl q) zeroSlot refl f
-      go (Load v) e q f w = push-stays (next (Load v) refl q) (varOf t (v .0)) (p .variable-refers (v .0) (ltb-true _ _ e)) f
-      go (Store v) e q f w = store-stays (next (Store v) refl q) v f
-      go (If b) e q f w = if-stays (next (If b) refl q) b (target b e .0) (target b e .1)
-      go (Enter v) e q f w = enter-stays a (next (Enter v) refl q) v (ltb-true _ _ e) f w
-      go (Exit v) e q f w = exit-stays a (next (Exit v) refl q) v (ltb-true _ _ e) f
-      go (New c b) e q f w = new-stays (next (New c b) refl q) (method .vars) c (ltb-true _ _ (and-fst (ltb c (P .classes)) _ e)) b (leb-true _ _ (and-snd (ltb c (P .classes)) _ e)) fails f
-      go (Start c) e q f w = start-stays (next (Start c) refl q) c (ltb-true _ _ e) f
-      go (Throw b) e q f w = athrow-stays (method .vars) b (leb-true _ _ e) f
-      go Return e q f w = end-stays (method .vars) 1 f
-      go Nothing e q f w = never e refl
+  move-stays a fails Inc e f w = inc-stays e f
+  move-stays a fails Pop e f w = pop-stays (t .at .0 + 1) (omega arith) (omega arith)
+  move-stays a fails Push0 e f w = push-stays e zeroSlot refl f
+  move-stays a fails (Load v) e f w = push-stays (e .1) (varOf t (v .0)) (p .variable-refers (v .0) (e .0)) f
+  move-stays a fails (Store v) e f w = store-stays (e .1) v f
+  move-stays a fails (If b) e f w = if-stays (e .1) b (e .0 .0) (e .0 .1)
+  move-stays a fails (Enter v) e f w = enter-stays a (e .1) v (e .0) f w
+  move-stays a fails (Exit v) e f w = exit-stays a (e .1) v (e .0) f
+  move-stays a fails (New c b) e f w = new-stays (e .2) (method .vars) c (e .0) b (e .1) fails f
+  move-stays a fails (Start c) e f w = start-stays (e .1) c (e .0) f
+  move-stays a fails (Throw b) e f w = athrow-stays (method .vars) b e f
+  move-stays a fails Return e f w = end-stays (method .vars) 1 f
+  move-stays a fails Nothing e f w = absurd e
 
 step-stays : (b : List ℕ) (s : State) (i : ℕ) (fails : Bool) → Belongs (programOf b) s → Stays (programOf b) (stepOf b s i fails)
-unfolding instructionOk
 step-stays b s i fails h = step-by (Stays (programOf b)) b s i fails (λ n. record { stays = h }) go
   where
     go : Moving b s i fails → Stays (programOf b) (moveOf (programOf b) s i (threadAt s i) (methodHere b s i) fails (instructionHere b s i))
@@ -230,7 +208,7 @@ step-stays b s i fails h = step-by (Stays (programOf b)) b s i fails (λ n. reco
         let p = h .live-placed i (m .thread-8) (m .live) in
         let e = m .formed .table (threadAt s i .class) (threadAt s i .at .0) (p .class-known) (p .address-first) (p .address-last) in
         move-stays (programOf b) (m .formed) s h i (m .thread-8) (threadAt s i) (m .live) p (m .live) fails (instructionHere b s i)
-        (and-fst (tableOk _ _ _ (instructionHere b s i)) _ e) (and-snd (tableOk _ _ _ (instructionHere b s i)) _ e) (m .no-fault) (m .no-wait)
+        e (m .no-fault) (m .no-wait)
 
 pub step-belongs : (b : List ℕ) (s : State) (i : ℕ) (fails : Bool) → stateOk (programOf b) s ≡ true
     → stateOk (programOf b) (stepOf b s i fails .state) ≡ true

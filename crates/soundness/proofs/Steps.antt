@@ -1,21 +1,18 @@
--- Every instruction of a live thread, under its row of the table and its rule, is fine: it draws no fault, and its move is a good step. A new instruction has its line here.
+-- Every instruction of a live thread, under its line of the table and its rule, is fine: it draws no fault, and its move is a good step. A new instruction has its line here.
 use Prim.Native.Nat.{ℕ, _+_, _≤_, _<_}
 use mathlib.Core.Path.{_≡_, refl}
 use mathlib.Core.Logic.{_≢_}
-use mathlib.Core.List.{[]}
-use mathlib.Core.Bool.{Bool, true, false, not, _||_}
+use mathlib.Core.Bool.{Bool, true, false}
 use native.Mathlib.Omega.{arith}
-use lib.Dec.{ltb, eqb}
-use borrow.Author.Tests.{ltb-true, leb-true, eqb-false}
+use lib.Dec.{ltb}
 use Rattle.ground.specs.Chain.{refuse}
-use Rattle.ground.proofs.Bools.{and-fst, and-snd}
 use Rattle.instructions.specs.declared.Var.{Var}
 use Rattle.instructions.specs.declared.Instruction.{Instruction}
 use Rattle.instructions.specs.declared.Instruction.the-variants.{Inc, Pop, Push0, Load, Store, If, Enter, Exit, New, Start, Throw, Return, Nothing}
-use Rattle.instructions.specs.Table.{targetOk, endsCode, lastOk, instructionOk}
+use Rattle.instructions.proofs.Table.{InstructionFits}
 use Rattle.bundle.specs.Program.{Address}
 use Rattle.rows.specs.Typed.{Typed}
-use Rattle.rules.specs.Rule.{rule, holds}
+use Rattle.rules.specs.Rule.{holds}
 use Rattle.rules.specs.Rules.{ruleOf}
 use Rattle.values.specs.Values.{objectOf}
 use Rattle.threads.specs.declared.Thread.{Thread}
@@ -28,8 +25,6 @@ use Rattle.machine.specs.Waits.{waitOf}
 use Rattle.machine.specs.Moves.{moveOf}
 use Rattle.machine.specs.Machine.{runOf}
 use Rattle.machine.proofs.Refusals.{draws}
-use Rattle.soundness.proofs.Held.{held}
-use Rattle.soundness.proofs.Kind.{nope}
 use Rattle.soundness.proofs.Accepted.{Accepted}
 use Rattle.soundness.proofs.Invariant.{Inv}
 use Rattle.soundness.proofs.Moves.{Good, given, Fine}
@@ -38,15 +33,6 @@ use Rattle.soundness.proofs.Locks.{enter-fine, exit-fine, leaves-held}
 use Rattle.soundness.proofs.Ends.{athrow-fine, return-fine}
 use Rattle.soundness.proofs.Makes.{new-fine}
 use Rattle.soundness.proofs.Starts.{start-fine}
-
--- address k holds athrow or return: any other instruction has a next address
-next-address : (code l : ℕ) (x : Instruction) → lastOk code l x ≡ true → endsCode x ≡ false → l ≤ code → l + 1 ≤ code
-unfolding lastOk
-next-address code l x h e k = go (eqb l code) refl (rw e at h)
-  where
-    go : (b : Bool) → eqb l code ≡ b → (not b || false) ≡ true → l + 1 ≤ code
-    go true q f = nope f
-    go false q f = omega (arith, eqb-false l code q)
 
 module _ (P : Typed) (A : Accepted P) (s : State) (inv : Inv P s) (i : ℕ) (li : i < 8) (lv : threadAt s i .live ≡ true) where
   abbrev T : Thread
@@ -67,32 +53,27 @@ module _ (P : Typed) (A : Accepted P) (s : State) (inv : Inv P s) (i : ℕ) (li 
   here : Address (P .program) C L
   here = inv .thread i li .live lv .address
 
-  next : (x : Instruction) → endsCode x ≡ false → instructionOk (P .program .classes) vars code L x ≡ true → Address (P .program) C (L + 1)
-  unfolding instructionOk
-  next x e h =
-      record { class-known = here .class-known; first = omega arith; last = next-address code L x (search and-snd) e (here .last) }
+  next : L < code → Address (P .program) C (L + 1)
+  next h = record { class-known = here .class-known; first = omega arith; last = omega arith }
 
-  exec-fine : (fails : Bool) (x : Instruction) → instructionOk (P .program .classes) vars code L x ≡ true → holds vars (ruleOf (P .program) vars (P .row C) L x) ≡ true
+  exec-fine : (fails : Bool) (x : Instruction) → InstructionFits (P .program .classes) vars code L x → holds vars (ruleOf (P .program) vars (P .row C) L x) ≡ true
       → Fine P s i (faultOf (P .program) s i T (P .program .method C) fails x) (waitOf s i T x) (moveOf (P .program) s i T (P .program .method C) fails x)
-  unfolding instructionOk targetOk
-  exec-fine fails Inc h r = inc-fine P A s inv i li lv (next Inc refl h) r
-  exec-fine fails Pop h r = pop-fine P A s inv i li lv (next Pop refl h) r
-  exec-fine fails Push0 h r = push0-fine P A s inv i li lv (next Push0 refl h) r
-  exec-fine fails (Load v) h r = load-fine P A s inv i li lv v (ltb-true _ _ (search and-fst)) (next (Load v) refl h) r
-  exec-fine fails (Store v) h r = store-fine P A s inv i li lv v (ltb-true _ _ (search and-fst)) (next (Store v) refl h) r
+  exec-fine fails Inc h r = inc-fine P A s inv i li lv (next h) r
+  exec-fine fails Pop h r = pop-fine P A s inv i li lv (next h) r
+  exec-fine fails Push0 h r = push0-fine P A s inv i li lv (next h) r
+  exec-fine fails (Load v) h r = load-fine P A s inv i li lv v (h .0) (next (h .1)) r
+  exec-fine fails (Store v) h r = store-fine P A s inv i li lv v (h .0) (next (h .1)) r
   exec-fine fails (If a) h r =
-      if-fine P A s inv i li lv a (next (If a) refl h)
-      (record { class-known = here .class-known; first = leb-true _ _ (search (and-fst, and-snd)); last = leb-true _ _ (search (and-fst, and-snd)) }) r
-  exec-fine fails (Enter v) h r = enter-fine P A s inv i li lv v (ltb-true _ _ (search and-fst)) (next (Enter v) refl h) r
-  exec-fine fails (Exit v) h r = exit-fine P A s inv i li lv v (ltb-true _ _ (search and-fst)) (next (Exit v) refl h) r
-  exec-fine fails (New c a) h r =
-      new-fine P A s inv i li lv c a fails (ltb-true _ _ (search (and-fst, and-snd))) (leb-true _ _ (search (and-fst, and-snd))) (next (New c a) refl h) r
-  exec-fine fails (Start c) h r = start-fine P A s inv i li lv c (ltb-true _ _ (search and-fst)) (next (Start c) refl h) r
-  exec-fine fails (Throw a) h r = athrow-fine P A s inv i li lv a (leb-true _ _ (search and-fst)) r
+      if-fine P A s inv i li lv a (next (h .1)) (record { class-known = here .class-known; first = h .0 .0; last = h .0 .1 }) r
+  exec-fine fails (Enter v) h r = enter-fine P A s inv i li lv v (h .0) (next (h .1)) r
+  exec-fine fails (Exit v) h r = exit-fine P A s inv i li lv v (h .0) (next (h .1)) r
+  exec-fine fails (New c a) h r = new-fine P A s inv i li lv c a fails (h .0) (h .1) (next (h .2)) r
+  exec-fine fails (Start c) h r = start-fine P A s inv i li lv c (h .0) (next (h .1)) r
+  exec-fine fails (Throw a) h r = athrow-fine P A s inv i li lv a h r
   exec-fine fails Return h r = return-fine P A s inv i li lv r
-  exec-fine fails Nothing h r = nope (held vars (rule false []) r .0)
+  exec-fine fails Nothing h r = absurd h
 
-  table-here : instructionOk (P .program .classes) vars code L (P .program .method C .instruction L) ≡ true
+  table-here : InstructionFits (P .program .classes) vars code L (P .program .method C .instruction L)
   table-here = A .formed .table C L (here .class-known) (here .first) (here .last)
 
   abbrev X : Instruction
@@ -137,8 +118,7 @@ module _ (P : Typed) (A : Accepted P) (s : State) (inv : Inv P s) (i : ℕ) (li 
 
   -- at monitorexit, the thread holds the object
   pub exit-held : (v : Var) → P .program .method C .instruction L ≡ Exit v → 0 < countOf (s .counts) i (objectOf (varOf T (v .0)))
-  unfolding instructionOk
   exit-held v q =
-      let h : instructionOk (P .program .classes) vars code L (Exit v) ≡ true = rw q at table-here in
+      let h : InstructionFits (P .program .classes) vars code L (Exit v) = rw q at table-here in
       let r : holds vars (ruleOf (P .program) vars (P .row C) L (Exit v)) ≡ true = rw q at (A .rule C L here) in
-      leaves-held P A s inv i li lv v (ltb-true _ _ (search and-fst)) r
+      leaves-held P A s inv i li lv v (h .0) r
