@@ -1,11 +1,14 @@
 // return, athrow and new.
 ghost use mathlib.Core.Path.{_≡_};
 ghost use Prim.Native.Nat.{_<_};
+ghost use Rattle.threads.specs.Threads.{topOf};
+ghost use Rattle.state.specs.declared.State.{State};
+ghost use Rattle.state.specs.State.{withThread};
 ghost use Rattle.machine.specs.Answers.{unlessDrawn};
 ghost use Rattle.machine.specs.Faults.{pushFault, endFault, throwFault, athrowFault, newFault};
 ghost use Rattle.machine.specs.Moves.{endMove, throwMove, makeMove, newMove};
-ghost use Rattle.threads.specs.Threads.{topOf};
 use crate::Stepped;
+use crate::Turn;
 use crate::moves;
 use crate::starts;
 use instructions::Addr;
@@ -13,64 +16,42 @@ use state::State;
 use threads::Thread;
 use values::Slot;
 
-fn end_fault(counts: &[u16], i: u8) -> u8
-    ensures { λ r. ⌜ r ≡ endFault (now (counts .entry)) i ⌝ }
+pub(crate) fn end_turn(counts: &[u16], i: u8, t: Thread, vars: u8, n: u8) -> Turn
+    ensures { λ r. ⌜ (r .fault ≡ endFault (now (counts .entry)) i) × (r .fault ≡ 0 → (s : State) → record { answer = r .answer; state = withThread s i (r .thread) } ≡ endMove s i t vars n) ⌝ }
 {
     if !state::holds_nothing(counts, i) {
-        return 15;
-    }
-    0
-}
-
-pub(crate) fn return_step(s: State, i: u8, t: Thread, vars: u8) -> Stepped
-    ensures { λ r. ⌜ r ≡ unlessDrawn (endFault (s .counts) i) s (endMove s i t vars 1) ⌝ }
-{
-    let n = end_fault(&s.counts, i);
-    if n != 0 {
-        return Stepped {
+        return Turn {
+            fault: 15,
             answer: n,
-            state: s,
+            thread: t,
         };
     }
-    Stepped {
-        answer: 1,
-        state: state::put_thread(s, i, threads::end(t, vars)),
+    Turn {
+        fault: 0,
+        answer: n,
+        thread: threads::end(t, vars),
     }
 }
 
-fn throw_fault(counts: &[u16], i: u8, limit: u8, h: Addr) -> u8
-    ensures { λ r. ⌜ r ≡ throwFault (now (counts .entry)) i limit h ⌝ }
+// x is thrown.
+fn throw_turn(counts: &[u16], i: u8, t: Thread, limit: u8, vars: u8, h: Addr, x: Slot) -> Turn
+    ensures { λ r. ⌜ (r .fault ≡ throwFault (now (counts .entry)) i limit h) × (r .fault ≡ 0 → (s : State) → record { answer = r .answer; state = withThread s i (r .thread) } ≡ throwMove s i t vars h x) ⌝ }
 {
     if h.0 == 0 {
-        return end_fault(counts, i);
+        return end_turn(counts, i, t, vars, 2);
     }
     if limit < 1 {
-        return 12;
-    }
-    0
-}
-
-// x is thrown. The state is passed on once, to the function that changes it: each that takes it copies it.
-fn throw_step(s: State, i: u8, t: Thread, limit: u8, vars: u8, h: Addr, x: Slot) -> Stepped
-    ensures { λ r. ⌜ r ≡ unlessDrawn (throwFault (s .counts) i limit h) s (throwMove s i t vars h x) ⌝ }
-{
-    let n = throw_fault(&s.counts, i, limit, h);
-    if n != 0 {
-        return Stepped {
-            answer: n,
-            state: s,
-        };
-    }
-    if h.0 == 0 {
-        return Stepped {
-            answer: 2,
-            state: state::put_thread(s, i, threads::end(t, vars)),
+        return Turn {
+            fault: 12,
+            answer: 0,
+            thread: t,
         };
     }
     let u = threads::push(threads::pop(t, t.depth), x);
-    Stepped {
+    Turn {
+        fault: 0,
         answer: 0,
-        state: state::put_thread(s, i, threads::go(u, h)),
+        thread: threads::go(u, h),
     }
 }
 
@@ -98,7 +79,7 @@ pub(crate) fn athrow_step(
             state: s,
         };
     }
-    throw_step(s, i, t, limit, vars, h, x)
+    moves::settle(s, i, throw_turn(&s.counts, i, t, limit, vars, h, x))
 }
 
 fn make_step(s: State, i: u8, t: Thread, limit: u8, c: u8) -> Stepped
@@ -131,7 +112,11 @@ pub(crate) fn new_step(
     ensures { λ r. ⌜ r ≡ unlessDrawn (newFault s i t limit h fails) s (newMove s i t vars c h fails) ⌝ }
 {
     if fails || 32 <= s.objects {
-        return throw_step(s, i, t, limit, vars, h, values::ref_slot(0));
+        return moves::settle(
+            s,
+            i,
+            throw_turn(&s.counts, i, t, limit, vars, h, values::ref_slot(0)),
+        );
     }
     make_step(s, i, t, limit, c)
 }

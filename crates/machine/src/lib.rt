@@ -22,6 +22,13 @@ pub struct Stepped {
     pub answer: u8,
 }
 
+// A step that leaves all but its thread alone: the fault that it draws, and where that is 0, the answer and how the thread goes on. It is made without the state, which each function that takes it copies.
+struct Turn {
+    thread: Thread,
+    answer: u8,
+    fault: u8,
+}
+
 fn main_thread() -> Thread
     ensures { λ r. ⌜ r ≡ mainThread ⌝ }
 {
@@ -88,7 +95,7 @@ fn run(b: &[u8], s: State, i: u8, fails: bool) -> Stepped
             k.vars,
             h,
         ),
-        Instruction::Return => ends::return_step(s, i, t, k.vars),
+        Instruction::Return => moves::settle(s, i, ends::end_turn(&s.counts, i, t, k.vars, 1)),
         Instruction::Nothing => Stepped {
             answer: 17,
             state: s,

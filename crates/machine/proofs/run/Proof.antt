@@ -1,8 +1,10 @@
+use mathlib.Core.Path.{_∙_}
 use Rattle.ground.specs.Chain.{refuse}
 use Rattle.bundle.specs.Program.{methodOf, programOf}
 use Rattle.threads.proofs.Places.{length-mapped}
 use Rattle.machine.specs.Answers.{unlessDrawn}
 use Rattle.machine.proofs.Ready.{next-fits, rests, runs}
+use Rattle.machine.proofs.Refusals.{drawn-same}
 use borrow.Author.Needs.{needs}
 use Rattle.machine.proofs.run.Statement.{statement}
 use Rattle.machine.proofs.run.Tie as tie
@@ -97,8 +99,11 @@ athrow-step-requires c κs = search needs
 enum-told-4 : tie.Need-enum-told-4
 enum-told-4 c = search needs
 
-return-step-requires : tie.Need-return-step-requires
-return-step-requires c κs = search needs
+end-turn-requires : tie.Need-end-turn-requires
+end-turn-requires c κs = search needs
+
+settle-requires : tie.Need-settle-requires
+settle-requires c κs = search needs
 
 enum-told-5 : tie.Need-enum-told-5
 enum-told-5 c = search needs
@@ -171,8 +176,8 @@ returns-12 c =
 returns-13 : tie.Need-returns-13
 unfolding methodOf unlessDrawn refuse
 returns-13 c =
-    runs _ (c .before .before .before .before .before .before .before .before .before .before .args .t2) _ _ (search (needs, length-mapped, c .before .before .before .before .before .before .before .before .before .before .good)) (c .before .before .before .before .before .before .before .before .before .before .pre) _ (c .before .before .before .before .before .before .if1 .left) (c .before .before .before .before .before .class-at .ensures) (c .before .before .before .before .part-of .ensures .0) (c .before .before .before .instruction-at .ensures)
-    (rw (c .return-step .ensures, c .before .enum-told4 .given .1))
+    runs _ (c .before .before .before .before .before .before .before .before .before .before .before .before .before .before .args .t2) _ _ (search (needs, length-mapped, c .before .before .before .before .before .before .before .before .before .before .before .before .before .before .good)) (c .before .before .before .before .before .before .before .before .before .before .before .before .before .before .pre) _ (c .before .before .before .before .before .before .before .before .before .before .if1 .left) (c .before .before .before .before .before .before .before .before .before .class-at .ensures) (c .before .before .before .before .before .before .before .before .part-of .ensures .0) (c .before .before .before .before .before .before .before .instruction-at .ensures)
+    (rw (c .before .before .before .before .before .enum-told4 .given .1) (c .settle .ensures ∙ drawn-same (c .before .before .before .before .before .before .before .before .before .before .before .before .before .before .args .t2) (c .before .end-turn .ensures .0) (λ q. c .before .end-turn .ensures .1 q (c .before .before .before .before .before .before .before .before .before .before .before .before .before .before .args .t2))))
 
 returns-14 : tie.Need-returns-14
 unfolding unlessDrawn refuse
@@ -214,7 +219,8 @@ run-spec =
     exception-requires
     athrow-step-requires
     enum-told-4
-    return-step-requires
+    end-turn-requires
+    settle-requires
     enum-told-5
     returns-2
     returns-3
