@@ -1,4 +1,4 @@
--- The typed program that rules, row 1 and soundness speak of: of bytes only the verdicts up to 8 speak.
+-- The typed program that rules, forms, row 1 and soundness speak of; of bytes only verdicts 1 to 7 speak.
 use mathlib.Core.List.{List}
 use Prim.Native.Nat.{ℕ}
 use Rattle.bundle.specs.Container.{classes, classAt, partOf}

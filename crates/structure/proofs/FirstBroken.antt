@@ -9,10 +9,10 @@ use Rattle.ground.specs.Lists.{each, In, firstBroken}
 use Rattle.ground.proofs.Lists.{in-append, in-left, in-right, in-each, each-in, in-numbered, numbered-in}
 use Rattle.bundle.specs.Container.{classes, classAt, partOf}
 use Rattle.bundle.specs.Program.{methodOf, methodAt, programOf}
-use Rattle.structure.specs.Verdicts.{verdict, isBad, pass, andThen, ascending, Names}
+use Rattle.structure.specs.Verdicts.{verdict, isBad, pass, Names}
 use Rattle.structure.specs.Places.{Place, whole, trailer, directory, limits, extent, descriptors, instruction, Within, headPlaces, shapePlaces, layoutPlaces, tablePlaces, structurePlaces, holds, drawn}
 use Rattle.structure.specs.Structure.{searched, layoutOf, structureOf, StructureJudges}
-use Rattle.structure.specs.Loops.{tableAt, tableOf}
+use Rattle.structure.specs.Loops.{andThen, ascending, tableAt, tableOf}
 use Rattle.structure.proofs.Judges.{judges, search-then, search-last, search-each}
 
 pub bad : (p : Place) → isBad (drawn p) ≡ true

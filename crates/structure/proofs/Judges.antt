@@ -7,7 +7,8 @@ use borrow.Author.Tests.{eq-eqb}
 use Rattle.ground.specs.Lists.{each, In, firstBroken}
 use Rattle.ground.proofs.Lists.{all-in, in-all, first-all, all-first, first-is, first-append, first-each}
 use Rattle.structure.specs.declared.Verdict.{Verdict}
-use Rattle.structure.specs.Verdicts.{verdict, isBad, pass, andThen, ascending, Judges}
+use Rattle.structure.specs.Verdicts.{verdict, isBad, pass, Judges}
+use Rattle.structure.specs.Loops.{andThen, ascending}
 
 module _ {P : Type 0} (holds : P → Bool) (drawn : P → Verdict) (bad : (p : P) → isBad (drawn p) ≡ true) where
   pub judges : (places : List P) (Within : P → Type 0) (n : ℕ) → ((p : P) → Within p → In p places) → ((p : P) → In p places → Within p)

@@ -32,6 +32,7 @@ headPlaces = whole ∷ trailer ∷ directory ∷ []
 abbrev pub shapePlaces : ℕ → List Place
 shapePlaces c = limits c ∷ extent c ∷ descriptors c ∷ []
 
+-- 1 to 6
 abbrev pub layoutPlaces : List ℕ → List Place
 layoutPlaces b = headPlaces ++ each (classes b) shapePlaces
 
@@ -39,6 +40,7 @@ layoutPlaces b = headPlaces ++ each (classes b) shapePlaces
 abbrev pub tablePlaces : List ℕ → ℕ → List Place
 tablePlaces b c = numbered (classAt b c .code) (λ i. instruction c (i + 1))
 
+-- 1 to 7, in the document's order
 abbrev pub structurePlaces : List ℕ → List Place
 structurePlaces b = layoutPlaces b ++ each (classes b) (tablePlaces b)
 

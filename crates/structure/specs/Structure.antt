@@ -1,4 +1,4 @@
--- Document 01, verdicts in their order, 1 to 7: the verdict is the first broken place's.
+-- Document 01, verdicts in their order, 1 to 7: the verdict is the first broken place's. What that says without a search is stated here, and proved in proofs/FirstBroken.antt.
 use mathlib.Core.List.{List, []}
 use mathlib.Core.Bool.{_&&_}
 use Prim.Native.Nat.{ℕ}
@@ -22,7 +22,7 @@ layoutOf b = searched b (layoutPlaces b)
 unfoldable pub structureOf : List ℕ → Verdict
 structureOf b = firstBroken (holds b) drawn (verdict 0 (classes b) 0) (structurePlaces b)
 
--- what that says without a search: `structure-judges`
+-- the first broken place in the list, which has all places: `structure-judges`
 abbrev pub StructureJudges : Type 0
 StructureJudges = (b : List ℕ) → Judges (holds b) drawn (structurePlaces b) (Within b) (classes b) (structureOf b)
 

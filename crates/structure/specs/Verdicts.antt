@@ -4,7 +4,6 @@ use mathlib.Core.Bool.{Bool, true, not}
 use mathlib.Core.Path.{_≡_}
 use Prim.Native.Nat.{ℕ}
 use lib.Dec.{eqb}
-use Rattle.ground.specs.Chain.{orThen, scan}
 use Rattle.ground.specs.Lists.{In, First}
 use Rattle.structure.specs.declared.Verdict.{Verdict}
 
@@ -22,14 +21,6 @@ isBad v = not (eqb (v .number) 0)
 -- nothing broken so far
 abbrev pub pass : Verdict
 pass = verdict 0 0 0
-
--- one stage after another: the first's verdict where it is bad
-abbrev pub andThen : Verdict → Verdict → Verdict
-andThen first second = orThen isBad first second
-
--- the first bad verdict of n in ascending order
-abbrev pub ascending : ℕ → (ℕ → Verdict) → Verdict
-ascending n f = scan isBad pass n f
 
 -- places in their order, whether one holds, and the verdict that a broken one draws
 module _ {P : Type 0} (holds : P → Bool) (drawn : P → Verdict) (places : List P) where

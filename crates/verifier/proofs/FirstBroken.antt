@@ -14,15 +14,16 @@ use Rattle.ground.proofs.Lists.{in-append, in-left, in-right, in-each, each-in,
 use Rattle.bundle.specs.Container.{classes, classAt, partOf}
 use Rattle.bundle.specs.Program.{methodOf, methodAt, programOf}
 use Rattle.structure.specs.declared.Verdict.{Verdict}
-use Rattle.structure.specs.Verdicts.{verdict, isBad, andThen, ascending, Names}
+use Rattle.structure.specs.Verdicts.{verdict, isBad, Names}
+use Rattle.structure.specs.Loops.{andThen, ascending}
 use Rattle.structure.specs.Structure.{structureOf}
 use Rattle.structure.specs.Places.{structurePlaces}
 use Rattle.structure.proofs.Judges.{judges, search-then, search-last, search-each}
 use Rattle.structure.proofs.FirstBroken.{structure-judges}
 use Rattle.structure.proofs.FirstBroken as structure
 use Rattle.verifier.specs.Places.{Place, structural, form, first, rule, Within, formPlaces, rulePlaces, places, holds, drawn}
-use Rattle.verifier.specs.Verdict.{verdictOf, searched, VerdictJudges, Agrees, AgreesBack}
-use Rattle.verifier.specs.Loops.{formAt, formsOf, ruleVerdict, rulesOf}
+use Rattle.verifier.specs.Verdict.{verdictOf, VerdictJudges, Agrees, AgreesBack}
+use Rattle.verifier.specs.Loops.{searched, formAt, formsOf, ruleVerdict, rulesOf}
 
 bad : (b : List ℕ) (p : Place) → isBad (drawn b p) ≡ true
 bad b (structural p) = structure.bad p

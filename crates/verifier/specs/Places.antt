@@ -26,7 +26,7 @@ Within b (form c l) = Address (programOf b) c l
 Within b (first c) = c < classes b
 Within b (rule c l) = Address (programOf b) c l
 
--- after 1 to 7, 8 over all classes and addresses, ascending
+-- after 1 to 7, 8 over all classes and addresses, likewise
 abbrev pub formPlaces : List ℕ → ℕ → List Place
 formPlaces b c = numbered (classAt b c .code) (λ i. form c (i + 1))
 
@@ -34,6 +34,7 @@ formPlaces b c = numbered (classAt b c .code) (λ i. form c (i + 1))
 abbrev pub rulePlaces : List ℕ → ℕ → List Place
 rulePlaces b c = first c ∷ numbered (classAt b c .code) (λ i. rule c (i + 1))
 
+-- all places, in the document's order
 abbrev pub places : List ℕ → List Place
 places b = map structural (structure.structurePlaces b) ++ (each (classes b) (formPlaces b) ++ each (classes b) (rulePlaces b))
 

@@ -1,4 +1,4 @@
--- Document 01, verdicts in their order: the verdict is the first broken place's.
+-- Document 01, verdicts in their order: the verdict is the first broken place's. What that says without a search is stated here, and proved in proofs/FirstBroken.antt.
 use mathlib.Core.List.{List}
 use mathlib.Core.Bool.{true}
 use mathlib.Core.Path.{_≡_}
@@ -6,15 +6,15 @@ use Prim.Native.Nat.{ℕ}
 use Rattle.ground.specs.Lists.{firstBroken}
 use Rattle.bundle.specs.Container.{classes}
 use Rattle.structure.specs.declared.Verdict.{Verdict}
-use Rattle.structure.specs.Verdicts.{verdict, isBad, pass, Judges}
+use Rattle.structure.specs.Verdicts.{verdict, isBad, Judges}
 use Rattle.structure.specs.Structure.{structureOf}
-use Rattle.verifier.specs.Places.{Place, Within, places, holds, drawn}
+use Rattle.verifier.specs.Places.{Within, places, holds, drawn}
 
 -- the verdict: the first broken rule in the document's order, and 0 with the class count where all hold
 unfoldable pub verdictOf : List ℕ → Verdict
 verdictOf b = firstBroken (holds b) (drawn b) (verdict 0 (classes b) 0) (places b)
 
--- what that says without a search: `verdict-judges`
+-- the first broken place in the list, which has all places: `verdict-judges`
 abbrev pub VerdictJudges : Type 0
 VerdictJudges = (b : List ℕ) → Judges (holds b) (drawn b) (places b) (Within b) (classes b) (verdictOf b)
 
@@ -24,7 +24,3 @@ Agrees = (b : List ℕ) → isBad (structureOf b) ≡ true → verdictOf b ≡ s
 
 abbrev pub AgreesBack : Type 0
 AgreesBack = (b : List ℕ) → verdictOf b .number ≡ 0 → structureOf b .number ≡ 0
-
--- the verdict of the first broken of some places, and `pass` where all hold
-abbrev pub searched : List ℕ → List Place → Verdict
-searched b ps = firstBroken (holds b) (drawn b) pass ps

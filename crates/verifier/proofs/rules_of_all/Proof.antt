@@ -5,7 +5,7 @@ use borrow.Author.Tests.{ne-eqb, eq-eqb}
 use Rattle.ground.specs.Chain.{scan}
 use Rattle.ground.proofs.Chain.{scan-zero, scan-next, scan-left, scan-done}
 use Rattle.verifier.specs.Places.{rulePlaces}
-use Rattle.verifier.specs.Verdict.{searched}
+use Rattle.verifier.specs.Loops.{searched}
 use Rattle.verifier.proofs.FirstBroken.{by-class}
 use Rattle.structure.specs.Verdicts.{isBad, pass}
 use borrow.Author.Needs.{needs}
