@@ -15,13 +15,13 @@ use Rattle.entries.specs.Fits.{takes, compare}
 use Rattle.rows.specs.Rows.{startBehind, rowStart, depthAt, variableAt, stackAt, entryAt}
 use Rattle.matching.specs.Matching.{wantsLoaded, edgeShort, varsGo, stackGoes}
 use Rattle.forms.specs.Forms.{entryFormed, varsFormed, stackFormed, rowFormed, firstVar, firstVars, firstRow}
-use Rattle.rules.specs.Rule.{met, shortOf, holds, why}
+use Rattle.rules.specs.Rule.{met, shortOf, ruleHolds, why}
 use Rattle.rules.specs.Rules.{incRule, popRule, push0Rule, loadRule, storeRule, ifRule, enterRule, exitRule, uncaughtGoes, thrown, throwRule, newRule, argumentGoes, objectGoes, argumentsGo, startRule, returnRule}
 use Rattle.verifier.specs.Verdict.{verdictOf}
 use Rattle.cases.specs.Cases.{Case, cases, caseA, caseB, caseC}
 
 pub cases-hold : map (λ (c : Case). c .given) cases ≡ map (λ (c : Case). c .wanted) cases
-unfolding allBelow refuse orThen scan table find lineOf tableOk each firstBroken lastOk instructionOk headAt classAt width size recordFits partOf codeFrom instructionPlace codeAt instructionAt methodOf methodAt programOf lengthOk trailerOk directoryOk mainOk codeOk limitsOk descriptorOk descriptorsOk addressOk structureOf zeros pairOk entryOf argumentEntry matches takes compare startBehind rowStart depthAt entryAt variableAt stackAt wantsLoaded edgeShort varsGo stackGoes entryFormed varsFormed stackFormed rowFormed firstVar firstVars firstRow incRule popRule push0Rule loadRule storeRule ifRule enterRule exitRule uncaughtGoes thrown throwRule newRule argumentGoes objectGoes argumentsGo startRule returnRule met shortOf holds why verdictOf
+unfolding allBelow refuse orThen scan table find lineOf tableOk each firstBroken lastOk instructionOk headAt classAt width size recordFits partOf codeFrom instructionPlace codeAt instructionAt methodOf methodAt programOf lengthOk trailerOk directoryOk mainOk codeOk limitsOk descriptorOk descriptorsOk addressOk structureOf zeros pairOk entryOf argumentEntry matches takes compare startBehind rowStart depthAt entryAt variableAt stackAt wantsLoaded edgeShort varsGo stackGoes entryFormed varsFormed stackFormed rowFormed firstVar firstVars firstRow incRule popRule push0Rule loadRule storeRule ifRule enterRule exitRule uncaughtGoes thrown throwRule newRule argumentGoes objectGoes argumentsGo startRule returnRule met shortOf ruleHolds why verdictOf
 cases-hold = refl
 
 -- record 117 bytes, directory at 117, whole bundle 133

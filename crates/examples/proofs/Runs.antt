@@ -14,7 +14,7 @@ use Rattle.entries.specs.Fits.{takes, compare}
 use Rattle.rows.specs.Rows.{startBehind, rowStart, depthAt, variableAt, stackAt, entryAt}
 use Rattle.matching.specs.Matching.{wantsLoaded, edgeShort, varsGo, stackGoes}
 use Rattle.forms.specs.Forms.{entryFormed, varsFormed, stackFormed, rowFormed, firstVar, firstVars, firstRow}
-use Rattle.rules.specs.Rule.{met, shortOf, holds, why}
+use Rattle.rules.specs.Rule.{met, shortOf, ruleHolds, why}
 use Rattle.rules.specs.Rules.{incRule, popRule, push0Rule, loadRule, storeRule, ifRule, enterRule, exitRule, uncaughtGoes, thrown, throwRule, newRule, argumentGoes, objectGoes, argumentsGo, startRule, returnRule}
 use Rattle.verifier.specs.Verdict.{verdictOf}
 use Rattle.threads.specs.Threads.{topped, pushed, popped, stored, ended, started}
@@ -26,9 +26,9 @@ use Rattle.machine.specs.Answers.{unlessDrawn}
 use Rattle.machine.specs.Faults.{isArgument, argumentsOk}
 
 pub accepted : map (λ (r : Run). verdictOf (r .bundle) .number) runs ≡ 0 ∷ 0 ∷ 0 ∷ 0 ∷ 0 ∷ []
-unfolding allBelow firstBelow countBelow setBelow fillFrom refuse orThen scan table find lineOf tableOk each firstBroken lastOk instructionOk headAt classAt width size recordFits partOf codeFrom instructionPlace codeAt instructionAt methodOf methodAt programOf lengthOk trailerOk directoryOk mainOk codeOk limitsOk descriptorOk descriptorsOk addressOk structureOf zeros pairOk entryOf argumentEntry matches takes compare startBehind rowStart depthAt entryAt variableAt stackAt wantsLoaded edgeShort varsGo stackGoes entryFormed varsFormed stackFormed rowFormed firstVar firstVars firstRow incRule popRule push0Rule loadRule storeRule ifRule enterRule exitRule uncaughtGoes thrown throwRule newRule argumentGoes objectGoes argumentsGo startRule returnRule met shortOf holds why verdictOf topped pushed popped stored ended started withObject othersFree holdsNothing lowestFree placesRefer placedOk liveOk threadOk threadsOk firstOk objectsOk countOk threadCountsOk countsOk soleHolder soleHolders stateOk unlessDrawn isArgument argumentsOk freshOf runOf stepOf
+unfolding allBelow firstBelow countBelow setBelow fillFrom refuse orThen scan table find lineOf tableOk each firstBroken lastOk instructionOk headAt classAt width size recordFits partOf codeFrom instructionPlace codeAt instructionAt methodOf methodAt programOf lengthOk trailerOk directoryOk mainOk codeOk limitsOk descriptorOk descriptorsOk addressOk structureOf zeros pairOk entryOf argumentEntry matches takes compare startBehind rowStart depthAt entryAt variableAt stackAt wantsLoaded edgeShort varsGo stackGoes entryFormed varsFormed stackFormed rowFormed firstVar firstVars firstRow incRule popRule push0Rule loadRule storeRule ifRule enterRule exitRule uncaughtGoes thrown throwRule newRule argumentGoes objectGoes argumentsGo startRule returnRule met shortOf ruleHolds why verdictOf topped pushed popped stored ended started withObject othersFree holdsNothing lowestFree placesRefer placedOk liveOk threadOk threadsOk firstOk objectsOk countOk threadCountsOk countsOk soleHolder soleHolders stateOk unlessDrawn isArgument argumentsOk freshOf runOf stepOf
 accepted = refl
 
 pub answered : map (λ (r : Run). answers (r .bundle) (r .schedule)) runs ≡ map (λ (r : Run). r .wanted) runs
-unfolding answersFrom allBelow firstBelow countBelow setBelow fillFrom refuse orThen scan table find lineOf tableOk each firstBroken lastOk instructionOk headAt classAt width size recordFits partOf codeFrom instructionPlace codeAt instructionAt methodOf methodAt programOf lengthOk trailerOk directoryOk mainOk codeOk limitsOk descriptorOk descriptorsOk addressOk structureOf zeros pairOk entryOf argumentEntry matches takes compare startBehind rowStart depthAt entryAt variableAt stackAt wantsLoaded edgeShort varsGo stackGoes entryFormed varsFormed stackFormed rowFormed firstVar firstVars firstRow incRule popRule push0Rule loadRule storeRule ifRule enterRule exitRule uncaughtGoes thrown throwRule newRule argumentGoes objectGoes argumentsGo startRule returnRule met shortOf holds why verdictOf topped pushed popped stored ended started withObject othersFree holdsNothing lowestFree placesRefer placedOk liveOk threadOk threadsOk firstOk objectsOk countOk threadCountsOk countsOk soleHolder soleHolders stateOk unlessDrawn isArgument argumentsOk freshOf runOf stepOf
+unfolding answersFrom allBelow firstBelow countBelow setBelow fillFrom refuse orThen scan table find lineOf tableOk each firstBroken lastOk instructionOk headAt classAt width size recordFits partOf codeFrom instructionPlace codeAt instructionAt methodOf methodAt programOf lengthOk trailerOk directoryOk mainOk codeOk limitsOk descriptorOk descriptorsOk addressOk structureOf zeros pairOk entryOf argumentEntry matches takes compare startBehind rowStart depthAt entryAt variableAt stackAt wantsLoaded edgeShort varsGo stackGoes entryFormed varsFormed stackFormed rowFormed firstVar firstVars firstRow incRule popRule push0Rule loadRule storeRule ifRule enterRule exitRule uncaughtGoes thrown throwRule newRule argumentGoes objectGoes argumentsGo startRule returnRule met shortOf ruleHolds why verdictOf topped pushed popped stored ended started withObject othersFree holdsNothing lowestFree placesRefer placedOk liveOk threadOk threadsOk firstOk objectsOk countOk threadCountsOk countsOk soleHolder soleHolders stateOk unlessDrawn isArgument argumentsOk freshOf runOf stepOf
 answered = refl

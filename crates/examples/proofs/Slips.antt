@@ -16,7 +16,7 @@ use Rattle.entries.specs.Fits.{takes, compare}
 use Rattle.rows.specs.Rows.{startBehind, rowStart, depthAt, variableAt, stackAt, entryAt}
 use Rattle.matching.specs.Matching.{wantsLoaded, edgeShort, varsGo, stackGoes}
 use Rattle.forms.specs.Forms.{entryFormed, varsFormed, stackFormed, rowFormed, firstVar, firstVars, firstRow}
-use Rattle.rules.specs.Rule.{met, shortOf, holds, why}
+use Rattle.rules.specs.Rule.{met, shortOf, ruleHolds, why}
 use Rattle.rules.specs.Rules.{incRule, popRule, push0Rule, loadRule, storeRule, ifRule, enterRule, exitRule, uncaughtGoes, thrown, throwRule, newRule, argumentGoes, objectGoes, argumentsGo, startRule, returnRule}
 use Rattle.verifier.specs.Verdict.{verdictOf}
 use Rattle.threads.specs.Threads.{topped, pushed, popped, stored, ended, started}
@@ -30,13 +30,13 @@ use Rattle.machine.specs.Faults.{isArgument, argumentsOk}
 
 -- document 01 refuses each at the address, the weakened rule lets it through there, and the schedule ends in a fault
 pub refused : map (λ (s : Slip). verdictOf (s .bundle)) slips ≡ map (λ (s : Slip). ruleFails 0 (s .address) (s .why)) slips
-unfolding allBelow firstBelow countBelow setBelow fillFrom refuse orThen scan table find lineOf tableOk each firstBroken lastOk instructionOk headAt classAt width size recordFits partOf codeFrom instructionPlace codeAt instructionAt methodOf methodAt programOf lengthOk trailerOk directoryOk mainOk codeOk limitsOk descriptorOk descriptorsOk addressOk structureOf zeros pairOk entryOf argumentEntry matches takes compare startBehind rowStart depthAt entryAt variableAt stackAt wantsLoaded edgeShort varsGo stackGoes entryFormed varsFormed stackFormed rowFormed firstVar firstVars firstRow incRule popRule push0Rule loadRule storeRule ifRule enterRule exitRule uncaughtGoes thrown throwRule newRule argumentGoes objectGoes argumentsGo startRule returnRule met shortOf holds why verdictOf topped pushed popped stored ended started withObject othersFree holdsNothing lowestFree placesRefer placedOk liveOk threadOk threadsOk firstOk objectsOk countOk threadCountsOk countsOk soleHolder soleHolders stateOk unlessDrawn isArgument argumentsOk freshOf runOf stepOf
+unfolding allBelow firstBelow countBelow setBelow fillFrom refuse orThen scan table find lineOf tableOk each firstBroken lastOk instructionOk headAt classAt width size recordFits partOf codeFrom instructionPlace codeAt instructionAt methodOf methodAt programOf lengthOk trailerOk directoryOk mainOk codeOk limitsOk descriptorOk descriptorsOk addressOk structureOf zeros pairOk entryOf argumentEntry matches takes compare startBehind rowStart depthAt entryAt variableAt stackAt wantsLoaded edgeShort varsGo stackGoes entryFormed varsFormed stackFormed rowFormed firstVar firstVars firstRow incRule popRule push0Rule loadRule storeRule ifRule enterRule exitRule uncaughtGoes thrown throwRule newRule argumentGoes objectGoes argumentsGo startRule returnRule met shortOf ruleHolds why verdictOf topped pushed popped stored ended started withObject othersFree holdsNothing lowestFree placesRefer placedOk liveOk threadOk threadsOk firstOk objectsOk countOk threadCountsOk countsOk soleHolder soleHolders stateOk unlessDrawn isArgument argumentsOk freshOf runOf stepOf
 refused = refl
 
 pub let-through : map (λ (s : Slip). s .weakened) slips ≡ true ∷ true ∷ true ∷ true ∷ true ∷ true ∷ true ∷ true ∷ true ∷ true ∷ true ∷ true ∷ true ∷ true ∷ true ∷ true ∷ []
-unfolding allBelow firstBelow countBelow setBelow fillFrom refuse orThen scan table find lineOf tableOk each firstBroken lastOk instructionOk headAt classAt width size recordFits partOf codeFrom instructionPlace codeAt instructionAt methodOf methodAt programOf lengthOk trailerOk directoryOk mainOk codeOk limitsOk descriptorOk descriptorsOk addressOk structureOf zeros pairOk entryOf argumentEntry matches takes compare startBehind rowStart depthAt entryAt variableAt stackAt wantsLoaded edgeShort varsGo stackGoes entryFormed varsFormed stackFormed rowFormed firstVar firstVars firstRow incRule popRule push0Rule loadRule storeRule ifRule enterRule exitRule uncaughtGoes thrown throwRule newRule argumentGoes objectGoes argumentsGo startRule returnRule met shortOf holds why verdictOf topped pushed popped stored ended started withObject othersFree holdsNothing lowestFree placesRefer placedOk liveOk threadOk threadsOk firstOk objectsOk countOk threadCountsOk countsOk soleHolder soleHolders stateOk unlessDrawn isArgument argumentsOk freshOf runOf stepOf
+unfolding allBelow firstBelow countBelow setBelow fillFrom refuse orThen scan table find lineOf tableOk each firstBroken lastOk instructionOk headAt classAt width size recordFits partOf codeFrom instructionPlace codeAt instructionAt methodOf methodAt programOf lengthOk trailerOk directoryOk mainOk codeOk limitsOk descriptorOk descriptorsOk addressOk structureOf zeros pairOk entryOf argumentEntry matches takes compare startBehind rowStart depthAt entryAt variableAt stackAt wantsLoaded edgeShort varsGo stackGoes entryFormed varsFormed stackFormed rowFormed firstVar firstVars firstRow incRule popRule push0Rule loadRule storeRule ifRule enterRule exitRule uncaughtGoes thrown throwRule newRule argumentGoes objectGoes argumentsGo startRule returnRule met shortOf ruleHolds why verdictOf topped pushed popped stored ended started withObject othersFree holdsNothing lowestFree placesRefer placedOk liveOk threadOk threadsOk firstOk objectsOk countOk threadCountsOk countsOk soleHolder soleHolders stateOk unlessDrawn isArgument argumentsOk freshOf runOf stepOf
 let-through = refl
 
 pub faults : map (λ (s : Slip). answers (s .bundle) (s .schedule)) slips ≡ map (λ (s : Slip). s .wanted) slips
-unfolding answersFrom allBelow firstBelow countBelow setBelow fillFrom refuse orThen scan table find lineOf tableOk each firstBroken lastOk instructionOk headAt classAt width size recordFits partOf codeFrom instructionPlace codeAt instructionAt methodOf methodAt programOf lengthOk trailerOk directoryOk mainOk codeOk limitsOk descriptorOk descriptorsOk addressOk structureOf zeros pairOk entryOf argumentEntry matches takes compare startBehind rowStart depthAt entryAt variableAt stackAt wantsLoaded edgeShort varsGo stackGoes entryFormed varsFormed stackFormed rowFormed firstVar firstVars firstRow incRule popRule push0Rule loadRule storeRule ifRule enterRule exitRule uncaughtGoes thrown throwRule newRule argumentGoes objectGoes argumentsGo startRule returnRule met shortOf holds why verdictOf topped pushed popped stored ended started withObject othersFree holdsNothing lowestFree placesRefer placedOk liveOk threadOk threadsOk firstOk objectsOk countOk threadCountsOk countsOk soleHolder soleHolders stateOk unlessDrawn isArgument argumentsOk freshOf runOf stepOf
+unfolding answersFrom allBelow firstBelow countBelow setBelow fillFrom refuse orThen scan table find lineOf tableOk each firstBroken lastOk instructionOk headAt classAt width size recordFits partOf codeFrom instructionPlace codeAt instructionAt methodOf methodAt programOf lengthOk trailerOk directoryOk mainOk codeOk limitsOk descriptorOk descriptorsOk addressOk structureOf zeros pairOk entryOf argumentEntry matches takes compare startBehind rowStart depthAt entryAt variableAt stackAt wantsLoaded edgeShort varsGo stackGoes entryFormed varsFormed stackFormed rowFormed firstVar firstVars firstRow incRule popRule push0Rule loadRule storeRule ifRule enterRule exitRule uncaughtGoes thrown throwRule newRule argumentGoes objectGoes argumentsGo startRule returnRule met shortOf ruleHolds why verdictOf topped pushed popped stored ended started withObject othersFree holdsNothing lowestFree placesRefer placedOk liveOk threadOk threadsOk firstOk objectsOk countOk threadCountsOk countsOk soleHolder soleHolders stateOk unlessDrawn isArgument argumentsOk freshOf runOf stepOf
 faults = refl

@@ -22,7 +22,7 @@ use Rattle.structure.proofs.Structured.{WellFormed}
 use Rattle.values.specs.declared.Slot.{Slot}
 use Rattle.values.specs.Values.{zeroSlot, refSlot, isInt, incSlot, jumps, refers}
 use Rattle.threads.specs.declared.Thread.{Thread}
-use Rattle.threads.specs.Threads.{entryOf, topOf, varOf, withAt, topped, pushed, popped, stored, ended, started}
+use Rattle.threads.specs.Threads.{fromTop, topOf, varOf, withAt, topped, pushed, popped, stored, ended, started}
 use Rattle.state.specs.declared.State.{State}
 use Rattle.state.specs.State.{threadAt, countOf, withThread, withCount, withObject, freeOf, othersFree, isFree, holdsNothing, lowestFree}
 use Rattle.belongs.specs.Belongs.{stateOk}
@@ -157,12 +157,12 @@ module _ (P : Program) (wf : WellFormed P) (s : State) (h : Belongs P s) (i : �
       }
     where
       at : (v : ℕ) → v < P .method c .vars → Dec (v < args)
-          → refers (s .objects) (getD (setBelow args (entryOf t) (replicate 16 zeroSlot)) v zeroSlot) ≡ true
+          → refers (s .objects) (getD (setBelow args (fromTop t) (replicate 16 zeroSlot)) v zeroSlot) ≡ true
       at v e (yes d) =
-          rw (set-below (entryOf t) (replicate 16 zeroSlot) args v zeroSlot d (omega (arith, wf .vars-16 c b, length-replicate 16 zeroSlot)))
+          rw (set-below (fromTop t) (replicate 16 zeroSlot) args v zeroSlot d (omega (arith, wf .vars-16 c b, length-replicate 16 zeroSlot)))
           (entry-refers P (s .objects) t p v (omega arith))
       at v e (no d) =
-          rw (set-above (entryOf t) (replicate 16 zeroSlot) args v zeroSlot (omega arith), getD-replicate 16 v zeroSlot zeroSlot (omega (arith, wf .vars-16 c b)))
+          rw (set-above (fromTop t) (replicate 16 zeroSlot) args v zeroSlot (omega arith), getD-replicate 16 v zeroSlot zeroSlot (omega (arith, wf .vars-16 c b)))
           refl
 
   start-stays : t .at .0 < method .code → (c : ℕ) → c < P .classes → startFault (s .classes) t (P .method c .args) (P .method c .descriptor) c ≡ 0

@@ -13,7 +13,7 @@ use Rattle.bundle.specs.Program.{Method, Program}
 use Rattle.values.specs.declared.Slot.{Slot}
 use Rattle.values.specs.Values.{isInt, objectOf}
 use Rattle.threads.specs.declared.Thread.{Thread}
-use Rattle.threads.specs.Threads.{entryOf, topOf, varOf}
+use Rattle.threads.specs.Threads.{fromTop, topOf, varOf}
 use Rattle.state.specs.declared.State.{State}
 use Rattle.state.specs.State.{countOf, holdsNothing}
 use Rattle.machine.specs.Answers.{test}
@@ -82,11 +82,11 @@ unfoldable pub isArgument : List ℕ → ℕ → Slot → Bool
 isArgument classes d x = cond (eqb d 255) (isInt x) (isObject classes d x)
 
 abbrev pub argumentAt : List ℕ → Thread → (ℕ → ℕ) → ℕ → Bool
-argumentAt classes t descriptor j = isArgument classes (descriptor j) (entryOf t j)
+argumentAt classes t descriptor j = isArgument classes (descriptor j) (fromTop t j)
 
 -- each argument by its descriptor and below them an object of the class
 unfoldable pub argumentsOk : List ℕ → Thread → ℕ → (ℕ → ℕ) → ℕ → Bool
-argumentsOk classes t args descriptor c = allBelow args (argumentAt classes t descriptor) && isObject classes c (entryOf t args)
+argumentsOk classes t args descriptor c = allBelow args (argumentAt classes t descriptor) && isObject classes c (fromTop t args)
 
 -- start of a class with so many arguments takes them (11), each by its descriptor, and the object below (13)
 abbrev pub startFault : List ℕ → Thread → ℕ → (ℕ → ℕ) → ℕ → ℕ

@@ -34,7 +34,7 @@ fn is_argument(classes: &[u8], d: u8, x: Slot) -> bool
 fn argument_at(classes: &[u8], t: Thread, r: &[u8], j: u8) -> bool
     ensures { λ o. ⌜ o ≡ argumentAt (now (classes .entry)) t (at (now (r .entry))) j ⌝ }
 {
-    is_argument(classes, ground::byte(r, j as usize), threads::entry(t, j))
+    is_argument(classes, ground::byte(r, j as usize), threads::from_top(t, j))
 }
 
 // `r` is the record of the class, whose descriptors come first.
@@ -46,7 +46,7 @@ fn arguments_ok(classes: &[u8], t: Thread, args: u8, r: &[u8], c: u8) -> bool
             return false;
         }
     }
-    is_object(classes, c, threads::entry(t, args))
+    is_object(classes, c, threads::from_top(t, args))
 }
 
 fn started_by(s: State, i: u8, t: Thread, args: u8, c: u8, j: u8) -> Stepped

@@ -7,7 +7,7 @@ use Rattle.structure.proofs.Structured.{WellFormed}
 use Rattle.entries.specs.Entries.{Top, endOf, isType, argumentEntry}
 use Rattle.entries.specs.Fits.{entryFits}
 use Rattle.rows.specs.Typed.{Typed}
-use Rattle.rules.specs.Rule.{holds}
+use Rattle.rules.specs.Rule.{ruleHolds}
 use Rattle.rules.specs.Rules.{ruleAt}
 
 pub record Accepted (P : Typed) : Type 0 where
@@ -22,4 +22,4 @@ pub record Accepted (P : Typed) : Type 0 where
   pub first-argument : (c i : ℕ) → c < P .program .classes → i < P .program .method c .args
       → entryFits (argumentEntry (P .program .method c .descriptor i)) (P .row c 1 .variable i) ≡ true
   pub first-other : (c i : ℕ) → c < P .program .classes → P .program .method c .args ≤ i → i < P .program .method c .vars → P .row c 1 .variable i ≡ Top
-  pub rule : (c l : ℕ) → Address (P .program) c l → holds (P .program .method c .vars) (ruleAt P c l) ≡ true
+  pub rule : (c l : ℕ) → Address (P .program) c l → ruleHolds (P .program .method c .vars) (ruleAt P c l) ≡ true

@@ -1,4 +1,4 @@
--- return, and a throw: a thread ends only where everything may go, and then it holds nothing; a handler finds what was thrown.
+-- return, and a throw: a thread ends only where everything may go, and then it ruleHolds nothing; a handler finds what was thrown.
 use Prim.Native.Nat.{ℕ, _+_, _-_, _≤_, _<_}
 use mathlib.Core.Path.{_≡_, refl, _∙_}
 use mathlib.Core.List.{[], _∷_}
@@ -19,7 +19,7 @@ use Rattle.entries.specs.Entries.{Entry, noEnd, endOf, isOf}
 use Rattle.entries.specs.Fits.{mayGo}
 use Rattle.matching.specs.Matching.{emptied, wants, edge, varsGo, entryGoes, stackGoes}
 use Rattle.matching.specs.Matching as rows
-use Rattle.rules.specs.Rule.{holds}
+use Rattle.rules.specs.Rule.{ruleHolds}
 use Rattle.rules.specs.Rules.{uncaughtGoes, thrown, made, throwRule, returnRule}
 use Rattle.values.specs.declared.Slot.{Slot}
 use Rattle.values.specs.Values.{zeroSlot, refSlot}
@@ -99,7 +99,7 @@ module _ (P : Typed) (A : Accepted P) (s : State) (inv : Inv P s) (i : ℕ) (li 
         };
       }
 
-  pub return-fine : holds vars (returnRule vars here) ≡ true → Fine P s i (endFault (s .counts) i) 0 (endMove s i T vars 1)
+  pub return-fine : ruleHolds vars (returnRule vars here) ≡ true → Fine P s i (endFault (s .counts) i) 0 (endMove s i T vars 1)
   unfolding returnRule
   return-fine e =
       let a = held vars (returnRule vars here) e .0 in
@@ -146,7 +146,7 @@ module _ (P : Typed) (A : Accepted P) (s : State) (inv : Inv P s) (i : ℕ) (li 
       goes : (j : ℕ) → j < T .depth → noEnd ≤ endOf (here .stack j)
       goes j k = goes-end (here .stack j) (all-elim (entryGoes here) (here .depth) sg j (omega (arith, st .depth-exact)))
 
-  pub athrow-fine : (h : Addr) → h .0 ≤ P .program .method (T .class) .code → holds vars (throwRule vars (P .program .exception) (h .0) here (P .row (T .class) (h .0))) ≡ true
+  pub athrow-fine : (h : Addr) → h .0 ≤ P .program .method (T .class) .code → ruleHolds vars (throwRule vars (P .program .exception) (h .0) here (P .row (T .class) (h .0))) ≡ true
       → Fine P s i (athrowFault s i T (P .program .exception) limit h) 0 (throwMove s i T vars h (topOf T))
   unfolding throwRule stackGoes
   athrow-fine h l e =

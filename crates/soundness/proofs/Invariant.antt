@@ -11,7 +11,7 @@ use Rattle.entries.specs.Entries.{Entry, noEnd, endOf}
 use Rattle.rows.specs.Typed.{Typed}
 use Rattle.values.specs.Values.{zeroSlot, refers}
 use Rattle.threads.specs.declared.Thread.{Thread}
-use Rattle.threads.specs.Threads.{varOf, entryOf}
+use Rattle.threads.specs.Threads.{varOf, fromTop}
 use Rattle.state.specs.declared.State.{State}
 use Rattle.state.specs.State.{threadAt, countOf, classOf}
 use Rattle.belongs.specs.Belongs.{stateOk}
@@ -98,7 +98,7 @@ module _ (P : Typed) (A : Accepted P) (n : ℕ) (cls k : ℕ → ℕ) (t : Threa
       stk : (p j : ℕ) → t .depth - 1 - j ≡ p → j < t .depth → refers n (getD (t .stack) p zeroSlot) ≡ true
       stk p j q l =
           rw q
-          at (type-refers n cls (P .row (t .class) (t .at .0) .stack j) (entryOf t j .value) (A .stack-type (t .class) (t .at .0) j (h .address) (omega (arith, h .stands .depth-exact)))
+          at (type-refers n cls (P .row (t .class) (t .at .0) .stack j) (fromTop t j .value) (A .stack-type (t .class) (t .at .0) j (h .address) (omega (arith, h .stands .depth-exact)))
           (entry-kind _ vars-16 n cls k _ t (omega (arith, depth-limit, limit-16)) (h .stands) j l))
 
 -- ---- the invariant rules out answer 18, and bounds every count

@@ -18,7 +18,7 @@ use Rattle.rows.specs.Rows.{Row}
 use Rattle.rows.specs.Typed.{Typed}
 use Rattle.matching.specs.Matching.{wants, edge}
 use Rattle.matching.specs.Matching as rows
-use Rattle.rules.specs.Rule.{holds}
+use Rattle.rules.specs.Rule.{ruleHolds}
 use Rattle.rules.specs.Rules.{enterRule, exitRule}
 use Rattle.values.specs.Values.{isInt}
 use Rattle.threads.specs.declared.Thread.{Thread}
@@ -91,14 +91,14 @@ module _ (P : Typed) (A : Accepted P) (s : State) (inv : Inv P s) (i : ℕ) (li 
       (live-standing P (s .objects) cls (countOf (set (s .counts) (i * 32 + O) n) i) (withAt T (T .at .0 + 1))
       (arrives P (s .objects) cls _ T (T .class) (T .at .0 + 1) lv refl ad (fit-stands vars w16 (s .objects) cls _ moved next T e h))))
 
-  -- the variable holds a reference (no fault 13)
+  -- the variable ruleHolds a reference (no fault 13)
   reference : {rest : ℕ} → isReference (here .variable (v .0)) ≡ true → test (not (isInt (varOf T (v .0)))) 13 rest ≡ rest
   reference q = went-on _ _ (ap not (is-object vars w16 (s .objects) cls cnt here T e16 st (v .0) l q))
 
   known : isReference (here .variable (v .0)) ≡ true → O < 32
   known q = omega (arith, object-known vars w16 (s .objects) cls cnt here T e16 st (v .0) l q, inv .whole .objects-32)
 
-  pub enter-fine : Next → holds vars (enterRule (v .0) here next) ≡ true → Fine P s i (enterFault (s .counts) i T v) (enterWait (s .counts) i T v) (enterMove s i T v)
+  pub enter-fine : Next → ruleHolds vars (enterRule (v .0) here next) ≡ true → Fine P s i (enterFault (s .counts) i T v) (enterWait (s .counts) i T v) (enterMove s i T v)
   unfolding enterRule
   enter-fine ad e =
       let r = held vars (enterRule (v .0) here next) e in
@@ -112,11 +112,11 @@ module _ (P : Typed) (A : Accepted P) (s : State) (inv : Inv P s) (i : ℕ) (li 
             (count-same P s i li away O (cnt O + 1) lo) (p .0));
       }
 
-  -- monitorexit's rule: the thread holds the object that it leaves
+  -- monitorexit's rule: the thread ruleHolds the object that it leaves
   holds-it : isReference (here .variable (v .0)) ≡ true → Meets (here .variable (v .0)) (wantExited (next .variable (v .0))) → 0 < cnt O
   holds-it q m = omega (arith, m .dip, dip-promises vars w16 (s .objects) cls cnt here T e16 st (v .0) l q (known q))
 
-  pub exit-fine : Next → holds vars (exitRule (v .0) here next) ≡ true → Fine P s i (exitFault (s .counts) i T v) 0 (exitMove s i T v)
+  pub exit-fine : Next → ruleHolds vars (exitRule (v .0) here next) ≡ true → Fine P s i (exitFault (s .counts) i T v) 0 (exitMove s i T v)
   unfolding exitRule
   exit-fine ad e =
       let r = held vars (exitRule (v .0) here next) e in
@@ -131,7 +131,7 @@ module _ (P : Typed) (A : Accepted P) (s : State) (inv : Inv P s) (i : ℕ) (li 
             (rw (count-same P s i li away O (cnt O - 1) lo) (omega arith)) (p .0));
       }
 
-  pub leaves-held : holds vars (exitRule (v .0) here next) ≡ true → 0 < cnt O
+  pub leaves-held : ruleHolds vars (exitRule (v .0) here next) ≡ true → 0 < cnt O
   unfolding exitRule
   leaves-held e =
       let r = held vars (exitRule (v .0) here next) e in

@@ -15,7 +15,7 @@ use Rattle.rows.specs.Rows.{Row}
 use Rattle.rows.specs.Typed.{Typed}
 use Rattle.matching.specs.Matching.{wants, edge, stackGoes}
 use Rattle.matching.specs.Matching as rows
-use Rattle.rules.specs.Rule.{holds}
+use Rattle.rules.specs.Rule.{ruleHolds}
 use Rattle.rules.specs.Rules.{newRule}
 use Rattle.values.specs.declared.Slot.{Slot}
 use Rattle.values.specs.Values.{refSlot}
@@ -99,7 +99,7 @@ module _ (P : Typed) (A : Accepted P) (s : State) (inv : Inv P s) (i : ℕ) (li 
           (omega arith, getD-set-same (s .classes) (s .objects) c 0 (omega (arith, inv .whole .classes-32)))))))))
 
   pub new-fine : (c : ℕ) (h : Addr) (fails : Bool) → c < P .program .classes → h .0 ≤ P .program .method (T .class) .code → Next
-      → holds vars (newRule vars (P .program .exception) c (h .0) here next (P .row (T .class) (h .0))) ≡ true → Fine P s i (newFault s i T limit h fails) 0 (newMove s i T vars c h fails)
+      → ruleHolds vars (newRule vars (P .program .exception) c (h .0) here next (P .row (T .class) (h .0))) ≡ true → Fine P s i (newFault s i T limit h fails) 0 (newMove s i T vars c h fails)
   unfolding newRule
   new-fine c h fails lc lh ad e =
       let r = held vars (newRule vars (P .program .exception) c (h .0) here next (P .row (T .class) (h .0))) e in

@@ -16,7 +16,7 @@ use Rattle.rows.specs.Rows.{Row}
 use Rattle.rows.specs.Typed.{Typed}
 use Rattle.matching.specs.Matching.{wants, wantsLoaded, edge}
 use Rattle.matching.specs.Matching as rows
-use Rattle.rules.specs.Rule.{holds}
+use Rattle.rules.specs.Rule.{ruleHolds}
 use Rattle.rules.specs.Rules.{incRule, popRule, push0Rule, loadRule, storeRule, ifRule}
 use Rattle.values.specs.declared.Slot.{Slot}
 use Rattle.values.specs.Values.{zeroSlot, incSlot, jumps}
@@ -80,7 +80,7 @@ module _ (P : Typed) (A : Accepted P) (s : State) (inv : Inv P s) (i : ℕ) (li 
       went-on _ _ (le-leb 1 (T .depth) (omega (arith, st .depth-exact)))
       ∙ went-on _ _ (int-value (s .objects) cls (here .stack 0) (topOf T .value) e (entry-kind vars w16 (s .objects) cls cnt here T e16 st 0 (omega (arith, st .depth-exact))))
 
-  pub inc-fine : Next → holds vars (incRule here next) ≡ true → Fine P s i (intFault T) 0 (incMove s i T)
+  pub inc-fine : Next → ruleHolds vars (incRule here next) ≡ true → Fine P s i (intFault T) 0 (incMove s i T)
   unfolding incRule topped
   inc-fine ad e =
       let r = held vars (incRule here next) e in
@@ -99,7 +99,7 @@ module _ (P : Typed) (A : Accepted P) (s : State) (inv : Inv P s) (i : ℕ) (li 
       goes-to P A s inv i li lv (popped 1 T) (rows.popped 1 here) m ad lv refl
       (pop-stands vars w16 (s .objects) cls cnt here T e16 st 1 en (λ j l. let q : j ≡ 0 = omega arith in rw q g)) f
 
-  pub pop-fine : Next → holds vars (popRule here next) ≡ true → Fine P s i (topFault T) 0 (popMove s i T)
+  pub pop-fine : Next → ruleHolds vars (popRule here next) ≡ true → Fine P s i (topFault T) 0 (popMove s i T)
   unfolding popRule
   pop-fine ad e =
       let r = held vars (popRule here next) e in
@@ -109,7 +109,7 @@ module _ (P : Typed) (A : Accepted P) (s : State) (inv : Inv P s) (i : ℕ) (li 
         good = λ _. pop-to (T .at .0 + 1) ad en (goes-end (here .stack 0) (and-snd (leb 1 (here .depth)) (mayGo (here .stack 0)) (r .0))) (r .1 .0);
       }
 
-  pub if-fine : (a : Addr) → Next → Address (P .program) (T .class) (a .0) → holds vars (ifRule here next (P .row (T .class) (a .0))) ≡ true → Fine P s i (intFault T) 0 (ifMove s i T a)
+  pub if-fine : (a : Addr) → Next → Address (P .program) (T .class) (a .0) → ruleHolds vars (ifRule here next (P .row (T .class) (a .0))) ≡ true → Fine P s i (intFault T) 0 (ifMove s i T a)
   unfolding ifRule
   if-fine a ad at e =
       let r = held vars (ifRule here next (P .row (T .class) (a .0))) e in
@@ -133,13 +133,13 @@ module _ (P : Typed) (A : Accepted P) (s : State) (inv : Inv P s) (i : ℕ) (li 
         good = λ _. goes-to P A s inv i li lv (pushed T u) x (T .at .0 + 1) ad (rw (pushed-is T u b) lv) (rw (pushed-is T u b)) (g b) f;
       }
 
-  pub push0-fine : Next → holds vars (push0Rule here next) ≡ true → Fine P s i (pushFault T limit) 0 (push0Move s i T)
+  pub push0-fine : Next → ruleHolds vars (push0Rule here next) ≡ true → Fine P s i (pushFault T limit) 0 (push0Move s i T)
   unfolding push0Rule
   push0-fine ad e =
       push-to zeroSlot (rows.pushed Int here) ad refl (λ b. push-stands vars w16 (s .objects) cls cnt here T e16 st zeroSlot Int b refl refl tt)
       (held vars (push0Rule here next) e .1 .0)
 
-  pub load-fine : (v : Var) → v .0 < vars → Next → holds vars (loadRule (v .0) here next) ≡ true → Fine P s i (pushFault T limit) 0 (loadMove s i T v)
+  pub load-fine : (v : Var) → v .0 < vars → Next → ruleHolds vars (loadRule (v .0) here next) ≡ true → Fine P s i (pushFault T limit) 0 (loadMove s i T v)
   unfolding loadRule
   load-fine v l ad e = go (isReference (here .variable (v .0))) refl
     where
@@ -156,7 +156,7 @@ module _ (P : Typed) (A : Accepted P) (s : State) (inv : Inv P s) (i : ℕ) (li 
           push-to (varOf T (v .0)) (rows.pushed (here .variable (v .0)) here) ad refl
           (λ b. push-stands vars w16 (s .objects) cls cnt here T e16 st (varOf T (v .0)) (here .variable (v .0)) b (p .0) (p .1) (variable-kind vars w16 (s .objects) cls cnt here T e16 st (v .0) l)) (fits-plain vars (v .0) here next l q f)
 
-  pub store-fine : (v : Var) → v .0 < vars → Next → holds vars (storeRule (v .0) here next) ≡ true → Fine P s i (topFault T) 0 (storeMove s i T v)
+  pub store-fine : (v : Var) → v .0 < vars → Next → ruleHolds vars (storeRule (v .0) here next) ≡ true → Fine P s i (topFault T) 0 (storeMove s i T v)
   unfolding storeRule popped stored
   store-fine v l ad e =
       let r = held vars (storeRule (v .0) here next) e in

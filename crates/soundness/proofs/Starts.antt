@@ -20,13 +20,13 @@ use Rattle.rows.specs.Rows.{Row}
 use Rattle.rows.specs.Typed.{Typed}
 use Rattle.matching.specs.Matching.{wants, edge}
 use Rattle.matching.specs.Matching as rows
-use Rattle.rules.specs.Rule.{holds}
+use Rattle.rules.specs.Rule.{ruleHolds}
 use Rattle.rules.specs.Rules.{argumentGoes, argumentsGo, objectGoes, startRule}
 use Rattle.values.specs.declared.Slot.{Slot}
 use Rattle.values.specs.Values.{zeroSlot}
 use Rattle.values.specs.Values as values
 use Rattle.threads.specs.declared.Thread.{Thread}
-use Rattle.threads.specs.Threads.{entryOf, withAt, popped, started}
+use Rattle.threads.specs.Threads.{fromTop, withAt, popped, started}
 use Rattle.state.specs.declared.State.{State}
 use Rattle.state.specs.State.{threadAt, countOf, classOf, withThread, notLive, lowestFree}
 use Rattle.machine.specs.Faults.{isObject, isArgument, argumentAt, argumentsOk, startFault}
@@ -101,7 +101,7 @@ module _ (P : Typed) (A : Accepted P) (s : State) (inv : Inv P s) (i : ℕ) (li 
     unfolding argumentsGo argumentGoes
     argument-goes j l = all-elim (argumentGoes descriptor here) args ag j l
 
-    kind : (j : ℕ) → j ≤ args → Matches (s .objects) cls (here .stack j) (entryOf T j .value)
+    kind : (j : ℕ) → j ≤ args → Matches (s .objects) cls (here .stack j) (fromTop T j .value)
     kind j l = entry-kind vars w16 (s .objects) cls cnt here T e16 st j (omega (arith, enough))
 
     all-go : (j : ℕ) → j < args + 1 → mayGo (here .stack j) ≡ true
@@ -116,21 +116,21 @@ module _ (P : Typed) (A : Accepted P) (s : State) (inv : Inv P s) (i : ℕ) (li 
     unfolding argumentsOk objectGoes
     arguments-ok =
         rw (all-intro (argumentAt (s .classes) T descriptor) args
-        (λ j l. argument-is (s .objects) (s .classes) (descriptor j) (here .stack j) (entryOf T j)
+        (λ j l. argument-is (s .objects) (s .classes) (descriptor j) (here .stack j) (fromTop T j)
         (and-fst (matches (descriptor j) (here .stack j)) (mayGo (here .stack j)) (argument-goes j l)) (kind j (omega arith))))
-        (object-is (s .objects) (s .classes) c (here .stack args) (entryOf T args) (and-fst (isOf c (here .stack args)) (mayGo (here .stack args)) og) (kind args (omega arith)))
+        (object-is (s .objects) (s .classes) c (here .stack args) (fromTop T args) (and-fst (isOf c (here .stack args)) (mayGo (here .stack args)) og) (kind args (omega arith)))
 
     -- the new thread
     started-live : (j : ℕ) → Asleep (countOf (s .counts) j) (threadAt s j)
         → Live P (s .objects) cls (countOf (s .counts) j) (started (threadAt s j) T c args)
     unfolding started
     started-live j a =
-        born-live P A (s .objects) cls (countOf (s .counts) j) c lc (setBelow args (entryOf T) (replicate 16 zeroSlot)) (threadAt s j .stack)
-        (set-length (entryOf T) (replicate 16 zeroSlot) args ∙ length-replicate 16 zeroSlot) (a .sized .stack) (a .free)
-        (λ p l. rw (value-argument args p (entryOf T) (threadAt s j .stack) l n16)
-        (argument-kind (s .objects) cls (descriptor p) (here .stack p) (entryOf T p .value)
+        born-live P A (s .objects) cls (countOf (s .counts) j) c lc (setBelow args (fromTop T) (replicate 16 zeroSlot)) (threadAt s j .stack)
+        (set-length (fromTop T) (replicate 16 zeroSlot) args ∙ length-replicate 16 zeroSlot) (a .sized .stack) (a .free)
+        (λ p l. rw (value-argument args p (fromTop T) (threadAt s j .stack) l n16)
+        (argument-kind (s .objects) cls (descriptor p) (here .stack p) (fromTop T p .value)
         (and-fst (matches (descriptor p) (here .stack p)) (mayGo (here .stack p)) (argument-goes p l)) (kind p (omega arith))))
-        (λ p l b. value-zero args p (entryOf T) (threadAt s j .stack) l b)
+        (λ p l b. value-zero args p (fromTop T) (threadAt s j .stack) l b)
 
     -- the starter goes on
     starts : Next → (j : ℕ) → j < 8 → threadAt s j .live ≡ false → Good P s i (startedBy s i T args c j)
@@ -151,7 +151,7 @@ module _ (P : Typed) (A : Accepted P) (s : State) (inv : Inv P s) (i : ℕ) (li 
   unfolding lowestFree
   free-is l = not-true _ (first-is 8 (notLive s) l)
 
-  pub start-fine : Next → holds vars (startRule args descriptor c here next) ≡ true
+  pub start-fine : Next → ruleHolds vars (startRule args descriptor c here next) ≡ true
       → Fine P s i (startFault (s .classes) T args descriptor c) (startWait s) (startMove s i T args c)
   unfolding startRule
   start-fine ad e =

@@ -12,7 +12,7 @@ use Rattle.instructions.specs.declared.Instruction.the-variants.{Inc, Pop, Push
 use Rattle.instructions.proofs.Table.{InstructionFits}
 use Rattle.bundle.specs.Program.{Address}
 use Rattle.rows.specs.Typed.{Typed}
-use Rattle.rules.specs.Rule.{holds}
+use Rattle.rules.specs.Rule.{ruleHolds}
 use Rattle.rules.specs.Rules.{ruleOf}
 use Rattle.values.specs.Values.{objectOf}
 use Rattle.threads.specs.declared.Thread.{Thread}
@@ -56,7 +56,7 @@ module _ (P : Typed) (A : Accepted P) (s : State) (inv : Inv P s) (i : ℕ) (li 
   next : L < code → Address (P .program) C (L + 1)
   next h = record { class-known = here .class-known; first = omega arith; last = omega arith }
 
-  exec-fine : (fails : Bool) (x : Instruction) → InstructionFits (P .program .classes) vars code L x → holds vars (ruleOf (P .program) vars (P .row C) L x) ≡ true
+  exec-fine : (fails : Bool) (x : Instruction) → InstructionFits (P .program .classes) vars code L x → ruleHolds vars (ruleOf (P .program) vars (P .row C) L x) ≡ true
       → Fine P s i (faultOf (P .program) s i T (P .program .method C) fails x) (waitOf s i T x) (moveOf (P .program) s i T (P .program .method C) fails x)
   exec-fine fails Inc h r = inc-fine P A s inv i li lv (next h) r
   exec-fine fails Pop h r = pop-fine P A s inv i li lv (next h) r
@@ -116,9 +116,9 @@ module _ (P : Typed) (A : Accepted P) (s : State) (inv : Inv P s) (i : ℕ) (li 
   unfolding runOf
   run-good fails = draws (Good P s i) s _ _ (λ n. absurd (n (no-fault fails))) (λ _. draws (Good P s i) s _ _ (waits X) (move-good fails))
 
-  -- at monitorexit, the thread holds the object
+  -- at monitorexit, the thread ruleHolds the object
   pub exit-held : (v : Var) → P .program .method C .instruction L ≡ Exit v → 0 < countOf (s .counts) i (objectOf (varOf T (v .0)))
   exit-held v q =
       let h : InstructionFits (P .program .classes) vars code L (Exit v) = rw q at table-here in
-      let r : holds vars (ruleOf (P .program) vars (P .row C) L (Exit v)) ≡ true = rw q at (A .rule C L here) in
+      let r : ruleHolds vars (ruleOf (P .program) vars (P .row C) L (Exit v)) ≡ true = rw q at (A .rule C L here) in
       leaves-held P A s inv i li lv v (h .0) r

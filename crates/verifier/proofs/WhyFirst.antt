@@ -63,8 +63,8 @@ lead-first l h =
     rw (r .2) (r .1)
 
 -- of a rule that does not hold
-explains : (vars : ℕ) (r : Rule) → rules.holds vars r ≡ false → Explains vars r (why vars r)
-unfolding rules.holds why shortOf
+explains : (vars : ℕ) (r : Rule) → rules.ruleHolds vars r ≡ false → Explains vars r (why vars r)
+unfolding rules.ruleHolds why shortOf
 explains vars r h = go (met r) refl h
   where
     go : (t : Bool) → met r ≡ t → (t && eqb (shortAlong vars (r .edges)) 0) ≡ false → Explains vars r (cond t (shortAlong vars (r .edges)) 0)

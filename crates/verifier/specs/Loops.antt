@@ -32,7 +32,7 @@ formsOf n c k r = ascending (k .code) (formAt n c k r)
 unfoldable pub ruleVerdict : Program → ℕ → ℕ → Class → List ℕ → ℕ → Verdict
 ruleVerdict P n c k r i =
     let x = ruleOf P (k .vars) (rowAt n k r) (i + 1) (instructionAt k r (i + 1)) in
-    refuse (rules.holds (k .vars) x) (ruleFails c (i + 1) (why (k .vars) x)) pass
+    refuse (rules.ruleHolds (k .vars) x) (ruleFails c (i + 1) (why (k .vars) x)) pass
 
 -- 10 and then 9 ascending
 unfoldable pub rulesOf : Program → ℕ → ℕ → Class → List ℕ → Verdict

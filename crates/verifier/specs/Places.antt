@@ -43,7 +43,7 @@ abbrev pub holds : List ℕ → Place → Bool
 holds b (structural p) = structure.holds b p
 holds b (form c l) = formedAt (typedOf b) c l
 holds b (first c) = firstAt (typedOf b) c
-holds b (rule c l) = rules.holds (programOf b .method c .vars) (ruleAt (typedOf b) c l)
+holds b (rule c l) = rules.ruleHolds (programOf b .method c .vars) (ruleAt (typedOf b) c l)
 
 -- the verdict that a broken place draws; a 9 says why
 abbrev pub drawn : List ℕ → Place → Verdict

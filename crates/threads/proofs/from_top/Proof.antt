@@ -4,8 +4,8 @@ use lib.ListN.{length, List·getD-eq-default}
 use native.Mathlib.Omega.{arith}
 use Rattle.values.specs.Values.{zeroSlot}
 use borrow.Author.Needs.{needs}
-use Rattle.threads.proofs.entry.Statement.{statement}
-use Rattle.threads.proofs.entry.Tie as tie
+use Rattle.threads.proofs.from_top.Statement.{statement}
+use Rattle.threads.proofs.from_top.Tie as tie
 
 place-requires : tie.Need-place-requires
 place-requires c κs = search needs
@@ -32,8 +32,8 @@ returns-2 c =
     let e = c .before .before .place .ensures in
     c .zero-slot .ensures ∙ sym (List·getD-eq-default (t .stack) zeroSlot (omega arith))
 
-pub entry-spec : {M : Type 1} → statement M
-entry-spec =
+pub from-top-spec : {M : Type 1} → statement M
+from-top-spec =
     tie.close
     (tie.spec
     place-requires
