@@ -35,43 +35,48 @@ impl Asked {
 
     /// What is wrong, and what that means.
     pub fn told(&self, from: u16) -> Vec<String> {
+        vec![self.found(from), self.meaning(from)]
+    }
+
+    fn found(&self, from: u16) -> String {
         match self {
-            Asked::Few { taken, depth } => vec![
-                format!(
-                    "The instruction takes {} from the stack, and row {from} has {depth}: {} too few.",
-                    entries(*taken),
-                    taken - depth
-                ),
-                fault(Answer::StackShort),
-            ],
+            Asked::Few { taken, depth } => format!(
+                "The instruction takes {} from the stack, and row {from} has {depth}: {} too few.",
+                entries(*taken),
+                taken - depth
+            ),
             Asked::Taken {
                 place,
                 found,
                 wanted,
-            } => vec![
-                format!("{} is {found}, and {wanted} is wanted.", sentence(&place.to_string())),
-                fault(Answer::WrongKind),
-            ],
-            Asked::Dropped { place, found } => vec![
-                format!(
-                    "{} is {found} and would be dropped: its end is {} below 0.",
-                    sentence(&place.to_string()),
-                    found.owing()
-                ),
-                format!(
-                    "That leaves {} owing: the lock would be held for ever.",
-                    some(found.owing(), "release")
-                ),
-            ],
-            Asked::Depth { to, left, claimed } => vec![
-                format!(
-                    "The instruction leaves {} on the stack, and row {to} claims {claimed}: {} too {}.",
-                    entries(*left),
-                    left.abs_diff(*claimed),
-                    if left < claimed { "many" } else { "few" }
-                ),
-                format!("The path {from} to {to} would bring another stack than row {to} says."),
-            ],
+            } => {
+                let place = sentence(&place.to_string());
+                format!("{place} is {found}, and {wanted} is wanted.")
+            }
+            Asked::Dropped { place, found } => {
+                let (place, below) = (sentence(&place.to_string()), found.owing());
+                format!("{place} is {found} and would be dropped: its end is {below} below 0.")
+            }
+            Asked::Depth { to, left, claimed } => format!(
+                "The instruction leaves {} on the stack, and row {to} claims {claimed}: {} too {}.",
+                entries(*left),
+                left.abs_diff(*claimed),
+                if left < claimed { "many" } else { "few" }
+            ),
+        }
+    }
+
+    fn meaning(&self, from: u16) -> String {
+        match self {
+            Asked::Few { .. } => fault(Answer::StackShort),
+            Asked::Taken { .. } => fault(Answer::WrongKind),
+            Asked::Dropped { found, .. } => {
+                let releases = some(found.owing(), "release");
+                format!("That leaves {releases} owing: the lock would be held for ever.")
+            }
+            Asked::Depth { to, .. } => {
+                format!("The path {from} to {to} would bring another stack than row {to} says.")
+            }
         }
     }
 }

@@ -1,7 +1,7 @@
 //! Verdicts 1 to 6: the container.
 
 use crate::finding::{explained, Finding};
-use crate::words::some;
+use crate::words::{some, there};
 use crate::Explanation;
 use listing::{byte, Head, Method, Program, Trailer, INT_DESCRIPTOR, MARK};
 
@@ -18,7 +18,7 @@ pub fn length(bytes: &[u8]) -> Explanation {
         short => format!("there are {short}"),
     };
     Explanation {
-        rule: format!("A bundle has 8 to {LONGEST} bytes."),
+        rule: format!("A bundle must have 8 to {LONGEST} bytes."),
         seen: vec![("bytes".to_string(), found)],
         found: vec!["So it has no trailer that could be read.".to_string()],
         why: None,
@@ -33,8 +33,8 @@ pub fn trailer(bytes: &[u8]) -> Explanation {
     let mut findings = vec![];
     if length != bytes.len() {
         let text = format!(
-            "The length says {length}, and there are {}.",
-            some(bytes.len() as i64, "byte")
+            "The length says {length}, and {}.",
+            there(bytes.len() as i64, "byte")
         );
         findings.push(Finding::new(at + 4, 2, text));
     }
@@ -42,7 +42,7 @@ pub fn trailer(bytes: &[u8]) -> Explanation {
         let text = "The mark 4C 4B is wanted as the last two bytes.".to_string();
         findings.push(Finding::new(at + 6, 2, text));
     }
-    let rule = "A bundle ends with its own length (two bytes) and the mark 4C 4B.";
+    let rule = "A bundle must end with its own length (two bytes) and the mark 4C 4B.";
     explained(bytes, rule, findings)
 }
 
@@ -57,7 +57,8 @@ pub fn directory(bytes: &[u8]) -> Explanation {
     }
     if trailer.directory_end() > at {
         let text = format!(
-            "The directory begins at byte {} and has {} for {}: it would end at byte {}, and the trailer begins at {at}.",
+            "The directory begins at byte {} and has {} for {}: it would end at byte {}, \
+             and the trailer begins at {at}.",
             trailer.directory,
             some(8 * i64::from(classes), "byte"),
             some(classes, "class"),
@@ -67,13 +68,14 @@ pub fn directory(bytes: &[u8]) -> Explanation {
     }
     if trailer.exception >= classes {
         let text = format!(
-            "Class {} is said to be thrown, and there are {}, counted from 0.",
+            "Class {} is said to be thrown, and {}, counted from 0.",
             trailer.exception,
-            some(classes, "class")
+            there(classes, "class")
         );
         findings.push(Finding::new(at + 3, 1, text));
     }
-    let rule = "The trailer names 1 to 8 classes, a directory that ends before the trailer, and a class of the bundle as what is thrown.";
+    let rule = "The trailer must name 1 to 8 classes, a directory that ends before the trailer, \
+                and a class of the bundle as what is thrown.";
     explained(bytes, rule, findings)
 }
 
@@ -107,7 +109,7 @@ pub fn limits(method: &Method) -> Explanation {
     let text = format!("k is {code}, and 1 to {MOST_CODE} instructions are allowed.");
     find(!(1..=MOST_CODE).contains(&code), at + 6, 2, text);
     let rule = format!(
-        "The directory keeps to its limits: at byte {at} stand the numbers of class {}.",
+        "The numbers of class {}, which begin at byte {at}, must keep to their limits.",
         method.class
     );
     explained(method.bundle(), &rule, findings)
@@ -120,14 +122,15 @@ pub fn record(program: &Program, class: u8) -> Explanation {
     let mut findings = vec![];
     if head.end() > end {
         let text = format!(
-            "The record begins at byte {} and has {}: it would end at byte {}, and the trailer begins at {end}.",
+            "The record begins at byte {} and has {}: it would end at byte {}, \
+             and the trailer begins at {end}.",
             head.offset,
             some((head.end() - head.offset) as i64, "byte"),
             head.end(),
         );
         findings.push(Finding::new(head.at, 2, text));
     }
-    let rule = format!("The record of class {class} ends before the trailer.");
+    let rule = format!("The record of class {class} must end before the trailer.");
     explained(program.bundle(), &rule, findings)
 }
 
@@ -141,13 +144,14 @@ pub fn descriptor(program: &Program, class: u8) -> Explanation {
             let descriptor = byte(program.bundle(), at);
             let known = descriptor == INT_DESCRIPTOR || descriptor < classes;
             let text = format!(
-                "Argument {argument} is said to be of class {descriptor}, and there are {}, counted from 0.",
-                some(classes, "class")
+                "Argument {argument} is said to be of class {descriptor}, and {}, counted from 0.",
+                there(classes, "class")
             );
             (!known).then(|| Finding::new(at, 1, text))
         })
         .collect();
-    let rule =
-        format!("Each descriptor of class {class} is FF, an integer, or a class of the bundle.");
+    let rule = format!(
+        "Each descriptor of class {class} must be FF, an integer, or a class of the bundle."
+    );
     explained(program.bundle(), &rule, findings)
 }

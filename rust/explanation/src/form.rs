@@ -1,19 +1,19 @@
 //! Verdict 8: a row that is not well formed.
 
 use crate::finding::{explained, Finding};
-use crate::words::sentence;
-use crate::words::{some, Place};
+use crate::words::{sentence, there, Place};
 use crate::Explanation;
 use listing::{Entry, Method, Program, HIGHEST_DIP, HIGHEST_END_BYTE};
 
 pub fn explain(program: &Program, class: u8, address: u16) -> Explanation {
     let method = program.method(class);
-    let findings = depth(&method, address)
-        .into_iter()
-        .chain(entries(&method, address, program.trailer.classes))
-        .collect();
+    let findings = match depth(&method, address) {
+        Some(finding) => vec![finding],
+        None => entries(&method, address, program.trailer.classes),
+    };
     let rule = format!(
-        "Row {address} of class {class} is well formed: its depth is at most K, each variable and each stack entry in use is Int, Top or a reference, and the others are zeros."
+        "Row {address} of class {class} must be well formed: its depth at most K, each variable \
+         and each stack entry in use Int, Top or a reference, and the others zeros."
     );
     explained(program.bundle(), &rule, findings)
 }
@@ -63,14 +63,15 @@ fn malformed(bytes: [u8; 4], classes: u8) -> String {
     match bytes {
         [1 | 2, ..] => "Int and Top have zeros behind their first byte".to_string(),
         [3, class, _, _] if class >= classes => format!(
-            "it refers to class {class}, and there are {}, counted from 0",
-            some(classes, "class")
+            "it refers to class {class}, and {}, counted from 0",
+            there(classes, "class")
         ),
         [3, _, dip, _] if dip > HIGHEST_DIP => {
             format!("its dip is {dip}, and at most {HIGHEST_DIP} is allowed")
         }
         [3, _, _, end] => format!(
-            "the byte of its end is {end}, and 1 to {HIGHEST_END_BYTE} are allowed, for ends of -63 to 63"
+            "the byte of its end is {end}, and 1 to {HIGHEST_END_BYTE} are allowed, \
+             for ends of -63 to 63"
         ),
         [kind, ..] => format!("no entry begins with {kind}"),
     }

@@ -22,6 +22,7 @@ mod words;
 use hveitmar::{Refusal, Why};
 use listing::Program;
 use std::fmt::{self, Display, Formatter};
+use words::wrapped;
 
 /// What is told of a refusal: the rule, what was held against it, and what
 /// was found.
@@ -68,16 +69,15 @@ pub fn explain(bytes: &[u8], refusal: Refusal) -> Explanation {
 
 impl Display for Explanation {
     fn fmt(&self, to: &mut Formatter) -> fmt::Result {
-        writeln!(to, "{}", self.rule)?;
         let width = self.seen.iter().map(|(name, _)| name.len()).max();
         let width = width.unwrap_or(0);
-        writeln!(to)?;
+        writeln!(to, "{}\n", wrapped(&self.rule))?;
         for (name, text) in &self.seen {
             writeln!(to, "    {name:<width$}   {text}")?;
         }
         writeln!(to)?;
         self.found
             .iter()
-            .try_for_each(|line| writeln!(to, "{line}"))
+            .try_for_each(|line| writeln!(to, "{}", wrapped(line)))
     }
 }

@@ -1,57 +1,58 @@
 //! Verdict 7: four bytes that are no instruction which may stand there.
 
 use crate::finding::{explained, Finding};
-use crate::words::some;
+use crate::words::there;
 use crate::Explanation;
 use listing::{Field, Instruction, Method, Operand, Program};
 
 pub fn explain(program: &Program, class: u8, address: u16) -> Explanation {
     let method = program.method(class);
     let at = method.head.instruction(address);
-    let whole = |text: String| Finding::new(at, 4, text);
     let findings = match method.instruction(address) {
         None => {
             let opcode = method.instruction_bytes(address)[0];
-            vec![whole(format!("No instruction has the opcode {opcode}."))]
+            let text = format!("No instruction has the opcode {opcode}.");
+            vec![Finding::new(at, 1, text)]
         }
         Some(instruction) => {
+            let last = last(&method, address, instruction);
             let operand = operand(program, &method, instruction);
             let field = field(&method, instruction);
-            let last = last(&method, address, instruction);
-            [operand, field, last]
-                .into_iter()
-                .flatten()
-                .map(whole)
-                .collect()
+            let opcode = last.map(|text| Finding::new(at, 1, text));
+            let operand = operand.map(|text| Finding::new(at + 1, 1, text));
+            let field = field.map(|text| Finding::new(at + 2, 2, text));
+            [opcode, operand, field].into_iter().flatten().collect()
         }
     };
     let rule = format!(
-        "At address {address} of class {class} stands an instruction of the table, and at the last address an athrow or a return."
+        "At address {address} of class {class} must stand an instruction of the table, \
+         and at the last address an athrow or a return."
     );
     explained(program.bundle(), &rule, findings)
+}
+
+/// Whether the code would run past its end.
+fn last(method: &Method, address: u16, instruction: Instruction) -> Option<String> {
+    let runs_on = address == method.head.code && !instruction.form.ends_code();
+    let text = format!(
+        "Address {address} is the last, and a thread would run past it from {}.",
+        instruction.form.name
+    );
+    runs_on.then_some(text)
 }
 
 /// What is wrong with the operand.
 fn operand(program: &Program, method: &Method, instruction: Instruction) -> Option<String> {
     let Instruction { form, operand, .. } = instruction;
+    let below = |count: usize, thing: &str| {
+        let there = there(count as i64, thing);
+        let text = format!("must be a {thing}, and {there}, counted from 0");
+        (text, usize::from(operand) < count)
+    };
     let (wanted, right) = match form.operand {
         Operand::Zero => ("must be 0".to_string(), operand == 0),
-        Operand::Variable => {
-            let variables = method.head.variables;
-            let text = format!(
-                "must be a variable, and there are {}, counted from 0",
-                some(variables as i64, "variable")
-            );
-            (text, usize::from(operand) < variables)
-        }
-        Operand::Class => {
-            let classes = program.trailer.classes;
-            let text = format!(
-                "must be a class, and there are {}, counted from 0",
-                some(classes, "class")
-            );
-            (text, operand < classes)
-        }
+        Operand::Variable => below(method.head.variables, "variable"),
+        Operand::Class => below(usize::from(program.trailer.classes), "class"),
     };
     let text = format!("The operand of {} is {operand}, and {wanted}.", form.name);
     (!right).then_some(text)
@@ -63,28 +64,16 @@ fn field(method: &Method, instruction: Instruction) -> Option<String> {
     let k = method.head.code;
     let (wanted, right) = match form.field {
         Field::Zero => ("must be 0".to_string(), field == 0),
-        Field::Target => (
-            format!("must be a target, 1 to {k}"),
-            (1..=k).contains(&field),
-        ),
-        Field::Handler => (
-            format!("must be a handler, 1 to {k}, or 0 for none"),
-            field <= k,
-        ),
+        Field::Target => {
+            let text = format!("must be a target, 1 to {k}");
+            (text, (1..=k).contains(&field))
+        }
+        Field::Handler => {
+            let text = format!("must be a handler, 1 to {k}, or 0 for none");
+            (text, field <= k)
+        }
     };
-    let text = format!(
-        "The address field of {} is {field}, and {wanted}.",
-        form.name
-    );
+    let name = form.name;
+    let text = format!("The address field of {name} is {field}, and {wanted}.");
     (!right).then_some(text)
-}
-
-/// Whether the code would run past its end.
-fn last(method: &Method, address: u16, instruction: Instruction) -> Option<String> {
-    let runs_on = address == method.head.code && !instruction.form.ends_code();
-    let text = format!(
-        "Address {address} is the last, and a thread would run past it from {}.",
-        instruction.form.name
-    );
-    runs_on.then_some(text)
 }

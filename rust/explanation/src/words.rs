@@ -3,12 +3,21 @@
 use listing::Entry;
 use std::fmt::{self, Display, Formatter};
 
+const WIDTH: usize = 80;
+
 /// `1 release`, `2 releases`.
 pub fn some(count: impl Into<i64>, thing: &str) -> String {
     match count.into() {
         1 => format!("1 {thing}"),
         count => format!("{count} {}", plural(thing)),
     }
+}
+
+/// `there is 1 class`, `there are 2 classes`.
+pub fn there(count: impl Into<i64>, thing: &str) -> String {
+    let count = count.into();
+    let are = if count == 1 { "is" } else { "are" };
+    format!("there {are} {}", some(count, thing))
 }
 
 fn plural(thing: &str) -> String {
@@ -19,13 +28,28 @@ fn plural(thing: &str) -> String {
     }
 }
 
-/// `Variable 0` begins a sentence as well as it stands in one.
+/// The text with a great letter in front.
 pub fn sentence(text: &str) -> String {
     let mut letters = text.chars();
     letters
         .next()
         .map(|first| first.to_uppercase().chain(letters).collect())
         .unwrap_or_default()
+}
+
+/// The text in lines of at most 80 letters, broken between words.
+pub fn wrapped(text: &str) -> String {
+    let mut lines: Vec<String> = vec![];
+    for word in text.split(' ') {
+        match lines.last_mut() {
+            Some(line) if line.len() + 1 + word.len() <= WIDTH => {
+                line.push(' ');
+                line.push_str(word);
+            }
+            _ => lines.push(word.to_string()),
+        }
+    }
+    lines.join("\n")
 }
 
 /// A place of a row.
