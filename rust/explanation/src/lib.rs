@@ -20,7 +20,7 @@ mod table;
 mod words;
 
 use hveitmar::{Refusal, Why};
-use listing::Program;
+use listing::{columns, Program};
 use std::fmt::{self, Display, Formatter};
 use words::wrapped;
 
@@ -69,13 +69,12 @@ pub fn explain(bytes: &[u8], refusal: Refusal) -> Explanation {
 
 impl Display for Explanation {
     fn fmt(&self, to: &mut Formatter) -> fmt::Result {
-        let width = self.seen.iter().map(|(name, _)| name.len()).max();
-        let width = width.unwrap_or(0);
+        let seen = self.seen.iter();
+        let seen: Vec<Vec<String>> = seen
+            .map(|(name, text)| vec![format!("    {name}"), text.clone()])
+            .collect();
         writeln!(to, "{}\n", wrapped(&self.rule))?;
-        for (name, text) in &self.seen {
-            writeln!(to, "    {name:<width$}   {text}")?;
-        }
-        writeln!(to)?;
+        writeln!(to, "{}", columns(&seen))?;
         self.found
             .iter()
             .try_for_each(|line| writeln!(to, "{}", wrapped(line)))

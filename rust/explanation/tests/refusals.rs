@@ -2,33 +2,47 @@
 //! rule that fails comes to the proved why.
 
 use explanation::explain;
-use generator::families;
-use hveitmar::{verify, Verdict};
+use generator::families::{self, damage::damage, Family};
+use generator::rng::Rng;
+use hveitmar::{verify, Refusal, Verdict};
 
 const REFUSALS: usize = 100_000;
+/// A well-typed bundle is damaged so often, each time in another way: that is
+/// quicker than to make as many.
+const DAMAGED: usize = 4;
 
-/// Explains the first so many refused bundles of these seeds; how many they
-/// are by verdict.
+/// The bundle of a seed, and what comes of it.
+fn bundles(seed: u64) -> Vec<Vec<u8>> {
+    let (family, bundle) = families::bundle(seed);
+    let mut rng = Rng::new(!seed);
+    let times = if family == Family::Typed { DAMAGED } else { 0 };
+    let mut all: Vec<Vec<u8>> = (0..times)
+        .map(|_| damage(&mut rng, bundle.clone()))
+        .collect();
+    all.push(bundle);
+    all
+}
+
+/// Its own comparison is the proved one, and it has found something.
+fn is_explained(seed: u64, bundle: &[u8], refusal: Refusal) {
+    let explanation = explain(bundle, refusal);
+    let text = explanation.to_string();
+    let about = format!("seed {seed} {refusal}\n{text}");
+    assert_eq!(explanation.why(), refusal.why(), "{about}");
+    assert!(explanation.is_complete(), "{about}");
+}
+
+/// Explains so many refusals of these seeds; how many they are by verdict.
 fn explained(seeds: impl Iterator<Item = u64>, wanted: usize) -> [usize; 11] {
     let mut refusals = [0; 11];
     for seed in seeds {
-        let (family, bundle) = families::bundle(seed);
-        let Verdict::Refused(refusal) = verify(&bundle) else {
-            continue;
-        };
-        let explanation = explain(&bundle, refusal);
-        let text = explanation.to_string();
-        assert_eq!(
-            explanation.why(),
-            refusal.why(),
-            "seed {seed} {family:?} {refusal}\n{text}"
-        );
-        assert!(
-            explanation.is_complete(),
-            "seed {seed} {family:?} {refusal}\n{text}"
-        );
-        refusals[usize::from(refusal.number())] += 1;
-        if refusals.iter().sum::<usize>() == wanted {
+        for bundle in bundles(seed) {
+            if let Verdict::Refused(refusal) = verify(&bundle) {
+                is_explained(seed, &bundle, refusal);
+                refusals[usize::from(refusal.number())] += 1;
+            }
+        }
+        if refusals.iter().sum::<usize>() >= wanted {
             break;
         }
     }

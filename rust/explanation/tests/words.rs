@@ -60,15 +60,12 @@ fn the_container() {
     tells(
         &changed(132, 0),
         2,
-        &["bytes 131 to 132   4C 00", "4C 4B is wanted"],
+        &["bytes 131 to 132  4C 00", "4C 4B is wanted"],
     );
     tells(
         &changed(130, 7),
         2,
-        &[
-            "bytes 129 to 130   00 07",
-            "says 7, and there are 133 bytes",
-        ],
+        &["bytes 129 to 130  00 07", "says 7, and there are 133 bytes"],
     );
     tells(
         &changed(127, 9),
@@ -79,7 +76,7 @@ fn the_container() {
         &changed(126, 118),
         3,
         &[
-            "bytes 125 to 126   00 76",
+            "bytes 125 to 126  00 76",
             "end at byte 126, and the trailer begins at 125",
         ],
     );
@@ -87,7 +84,7 @@ fn the_container() {
         &changed(128, 1),
         3,
         &[
-            "byte 128   01",
+            "byte 128  01",
             "Class 1 is said to be thrown, and there is 1 class",
         ],
     );
@@ -100,7 +97,7 @@ fn the_container() {
         &changed(118, 9),
         5,
         &[
-            "bytes 117 to 118   00 09",
+            "bytes 117 to 118  00 09",
             "has 117 bytes: it would end at byte 126",
         ],
     );
@@ -111,22 +108,22 @@ fn the_table() {
     tells(
         &changed(0, 13),
         7,
-        &["byte 0   0D", "No instruction has the opcode 13."],
+        &["byte 0  0D", "No instruction has the opcode 13."],
     );
     tells(
         &changed(5, 1),
         7,
-        &["byte 5   01", "The operand of store is 1", "1 variable,"],
+        &["byte 5  01", "The operand of store is 1", "1 variable,"],
     );
     tells(
         &changed(19, 10),
         7,
-        &["bytes 18 to 19   00 0A", "must be a target, 1 to 9"],
+        &["bytes 18 to 19  00 0A", "must be a target, 1 to 9"],
     );
     tells(
         &changed(32, 2),
         7,
-        &["byte 32   02", "Address 9 is the last"],
+        &["byte 32  02", "Address 9 is the last"],
     );
 }
 
@@ -136,14 +133,14 @@ fn the_rows() {
         &changed(40, 2),
         8,
         &[
-            "byte 40   02",
+            "byte 40  02",
             "The depth is 2, and the limit of the stack is 1.",
         ],
     );
     tells(
         &changed(65, 64),
         8,
-        &["bytes 63 to 66   03 00 40 3F", "Variable 0: its dip is 64"],
+        &["bytes 63 to 66  03 00 40 3F", "Variable 0: its dip is 64"],
     );
     tells(
         &changed(64, 1),
