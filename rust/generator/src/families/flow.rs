@@ -1,0 +1,72 @@
+//! What flows where in a method: used to count how hard the inputs are.
+
+use reference::bundle::{Addr, Bundle, Class, Instr, Row};
+use reference::entries::Entry;
+
+/// Addresses of one method, by their index.
+type Reach = [bool; 257];
+
+/// Whether some method of a well-formed bundle branches on a way that leads
+/// from its start over a monitorenter to a monitorexit, while a reference in
+/// the row still owes a lock that it may give back.
+pub fn branches_under_lock(b: &[u8]) -> bool {
+    Bundle::open_with_code(b)
+        .is_ok_and(|bundle| bundle.classes().any(|(_, class)| method_does(class)))
+}
+
+fn method_does(class: &Class) -> bool {
+    let code: Vec<Instr> = (1..=class.code_length())
+        .map(|a| class.instruction(Addr(a)))
+        .collect();
+    let at = |address: usize| code[address - 1];
+    let from_start = reach(&code, &[1]);
+    let enters = filtered(&from_start, |a| matches!(at(a), Instr::Enter(_)));
+    let from_enter = reach(&code, &enters);
+    filtered(&from_enter, |a| {
+        is_branch(at(a), a) && owes(class.row(Addr(a as u16)))
+    })
+    .into_iter()
+    .any(|a| {
+        let beyond = reach(&code, &[a]);
+        !filtered(&beyond, |x| matches!(at(x), Instr::Exit(_))).is_empty()
+    })
+}
+
+/// An if whose two ways differ.
+fn is_branch(instr: Instr, address: usize) -> bool {
+    matches!(instr, Instr::If(target) if usize::from(target.0) != address + 1)
+}
+
+fn owes(row: Row) -> bool {
+    row.variables.iter().chain(row.stack).any(
+        |&raw| matches!(Entry::read(raw), Entry::Ref { pair, .. } if pair.dip > 0 && pair.end < 0),
+    )
+}
+
+fn filtered(reach: &Reach, ok: impl Fn(usize) -> bool) -> Vec<usize> {
+    (1..reach.len()).filter(|&a| reach[a] && ok(a)).collect()
+}
+
+/// All addresses that can follow those given, themselves among them.
+fn reach(code: &[Instr], from: &[usize]) -> Reach {
+    let mut seen = [false; 257];
+    let mut left = from.to_vec();
+    while let Some(address) = left.pop() {
+        if !std::mem::replace(&mut seen[address], true) {
+            left.extend(successors(code[address - 1], address));
+        }
+    }
+    seen
+}
+
+fn successors(instr: Instr, address: usize) -> impl Iterator<Item = usize> {
+    let jump = |target: Addr| Some(usize::from(target.0));
+    let (next, other) = match instr {
+        Instr::If(target) => (Some(address + 1), jump(target)),
+        Instr::New(_, handler) => (Some(address + 1), handler.and_then(jump)),
+        Instr::Athrow(handler) => (None, handler.and_then(jump)),
+        Instr::Return => (None, None),
+        _ => (Some(address + 1), None),
+    };
+    next.into_iter().chain(other)
+}
