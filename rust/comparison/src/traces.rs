@@ -7,7 +7,6 @@ use generator::lively::Lively;
 use generator::rng::Rng;
 use generator::schedule::any_state;
 use reference::machine::fresh;
-use reference::slips::Slips;
 use std::io::Error;
 use trace::{decode_input, encode_input, encode_output, follow, Program, BAD_INPUT, MAX_STEPS};
 
@@ -53,7 +52,7 @@ impl Traces {
             return BAD_INPUT.to_string();
         };
         self.given += u64::from(input.start.is_some());
-        let output = follow(&input, &Slips::NONE);
+        let output = follow(&input);
         for step in &output.steps {
             self.answers[usize::from(step.answer)] += 1;
         }

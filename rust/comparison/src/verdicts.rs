@@ -5,7 +5,6 @@ use super::Differences;
 use crate::proved;
 use generator::builder::{case_a, lay_out};
 use generator::families::{self, flow};
-use reference::slips::Slips;
 use reference::verify::verify;
 
 #[derive(Debug, Default)]
@@ -41,7 +40,7 @@ impl Verdicts {
     }
 
     fn compare(&mut self, bundle: &[u8], name: &str) {
-        let reference = verify(bundle, &Slips::NONE);
+        let reference = verify(bundle);
         let proved = proved::verdict(bundle);
         if proved != reference {
             // All four numbers, whatever the verdict: any of them may differ.

@@ -4,7 +4,6 @@ use crate::rng::Rng;
 use crate::schedule::Scheduler;
 use reference::bundle::{Addr, Bundle, Instr};
 use reference::machine::{answer, step_in, State};
-use reference::slips::Slips;
 use trace::Turn;
 
 /// A schedule ends after so many steps in a row that change nothing.
@@ -42,10 +41,9 @@ impl Lively {
             }
             let mut given = answer::BAD_BUNDLE;
             if let Some(bundle) = &opened {
-                let (answer, next) =
-                    step_in(bundle, &state, turn.thread(), turn.fails(), &Slips::NONE);
-                lively.watch(bundle, &state, turn, answer, &next);
-                (given, state) = (answer, next);
+                let before = Before::look(&state, turn);
+                given = step_in(bundle, &mut state, turn.thread(), turn.fails());
+                lively.watch(bundle, before, given, &state);
             }
             idle = if given > answer::UNCAUGHT {
                 idle + 1
@@ -59,16 +57,34 @@ impl Lively {
     }
 
     /// Notes whether a step entered a handler.
-    fn watch(&mut self, bundle: &Bundle, before: &State, turn: Turn, given: u8, after: &State) {
+    fn watch(&mut self, bundle: &Bundle, before: Before, given: u8, after: &State) {
         if given != answer::WENT_ON {
             return;
         }
-        let thread = &before.threads[usize::from(turn.thread())];
-        let class = bundle.class(thread.class);
-        match class.instruction(Addr(thread.address)) {
+        match bundle.class(before.class).instruction(before.address) {
             Instr::Athrow(_) => self.caught_athrow = true,
             Instr::New(..) => self.caught_new |= before.objects == after.objects,
             _ => {}
+        }
+    }
+}
+
+/// Where a step finds its thread, and how many objects.
+#[derive(Clone, Copy)]
+struct Before {
+    class: u8,
+    address: Addr,
+    objects: u8,
+}
+
+impl Before {
+    fn look(state: &State, turn: Turn) -> Before {
+        let thread = state.threads.get(usize::from(turn.thread()));
+        let (class, address) = thread.map_or((0, 0), |thread| (thread.class, thread.address));
+        Before {
+            class,
+            address: Addr(address),
+            objects: state.objects,
         }
     }
 }

@@ -2,10 +2,9 @@
 
 use crate::rng::Rng;
 use reference::bundle::{Addr, Bundle, Class, Instr};
-use reference::machine::{
-    step_in, State, Thread, Value, MAX_COUNT, OBJECTS, PLACES, THREADS, THROWN_BY_NEW,
-};
-use reference::slips::Slips;
+use reference::entries::kind;
+use reference::machine::step_in;
+use reference::state::{State, Thread, Value, MAX_COUNT, OBJECTS, PLACES, THREADS, THROWN_BY_NEW};
 use trace::Turn;
 
 /// How a schedule treats its threads.
@@ -63,7 +62,7 @@ pub fn schedule(b: &[u8], start: &State, seed: u64, steps: usize) -> Vec<u8> {
         let turn = scheduler.turn(&state);
         turns.push(turn.0);
         if let Some(bundle) = &bundle {
-            state = step_in(bundle, &state, turn.thread(), turn.fails(), &Slips::NONE).1;
+            step_in(bundle, &mut state, turn.thread(), turn.fails());
         }
     }
     turns
@@ -218,11 +217,11 @@ fn follow_row(rng: &mut Rng, class: &Class, state: &State, thread: &mut Thread) 
 
 fn value_like(rng: &mut Rng, state: &State, raw: &[u8; 4]) -> Value {
     let alike: Vec<u8> = (0..state.objects)
-        .filter(|&object| raw[0] == 3 && state.classes[usize::from(object)] == raw[1])
+        .filter(|&object| raw[0] == kind::REFERENCE && state.classes[usize::from(object)] == raw[1])
         .collect();
     match raw[0] {
-        1 => integer(rng),
-        3 if !alike.is_empty() => Value::Ref(rng.pick(&alike)),
+        kind::INT => integer(rng),
+        kind::REFERENCE if !alike.is_empty() => Value::Ref(rng.pick(&alike)),
         _ => value(rng, state),
     }
 }

@@ -4,9 +4,10 @@ use generator::families::{self, flow, typed};
 use generator::lively::Lively;
 use generator::rng::Rng;
 use generator::schedule::valid_state;
+use reference::belongs::belongs;
 use reference::bundle::Bundle;
-use reference::machine::{belongs, fresh};
-use reference::slips::{Slip, Slips};
+use reference::machine::fresh;
+use reference::slips::Slip;
 use reference::verify::verify;
 
 #[test]
@@ -20,7 +21,7 @@ fn every_verdict_comes_up() {
     let mut branching = 0;
     for seed in 0..5_000 {
         let (_, b) = families::bundle(seed);
-        let number = usize::from(verify(&b, &Slips::NONE).number);
+        let number = usize::from(verify(&b).number);
         verdicts[number] += 1;
         branching += usize::from(number == 0 && flow::branches_under_lock(&b));
     }
@@ -35,7 +36,7 @@ fn every_verdict_comes_up() {
 #[test]
 fn well_typed_bundles_are_accepted() {
     let accepted = (0..1_000)
-        .filter(|&seed| verify(&typed::well_typed(&mut Rng::new(seed)), &Slips::NONE).number == 0)
+        .filter(|&seed| verify(&typed::well_typed(&mut Rng::new(seed))).number == 0)
         .count();
     assert!(accepted >= 990, "{accepted}");
 }
@@ -45,8 +46,8 @@ fn every_temptation_works() {
     for slip in Slip::VERIFIER {
         let let_through = (0..1_000)
             .map(|seed| typed::tempting(&mut Rng::new(seed), slip))
-            .filter(|b| verify(b, &Slips::NONE).number == 9)
-            .filter(|b| verify(b, &slip.alone()).number == 0)
+            .filter(|b| verify(b).number == 9)
+            .filter(|b| slip.verify(b).number == 0)
             .count();
         assert!(let_through >= 10, "{slip:?}: {let_through}");
     }

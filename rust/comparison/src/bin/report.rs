@@ -10,7 +10,6 @@ use generator::rng::Rng;
 use generator::schedule::{any_state, Scheduler};
 use reference::bundle::Bundle;
 use reference::machine::{fresh, step, step_in, State};
-use reference::slips::Slips;
 use reference::verify::verify;
 
 /// No count passes this in an accepted bundle: 32 places of 63 each.
@@ -46,7 +45,7 @@ fn main() {
 impl Figures {
     fn add(&mut self, seed: u64) {
         let (_, b) = families::bundle(seed);
-        let verdict = verify(&b, &Slips::NONE);
+        let verdict = verify(&b);
         self.bytes += b.len();
         self.verdicts[usize::from(verdict.number)] += 1;
         self.whys.add(&b, verdict);
@@ -62,7 +61,8 @@ impl Figures {
         let state = any_state(&mut rng, b);
         for thread in 0..9 {
             let fails = rng.chance(1, 4);
-            let (answer, next) = step(b, &state, thread, fails, &Slips::NONE);
+            let mut next = state.clone();
+            let answer = step(b, &mut next, thread, fails);
             assert!(
                 answer <= 2 || next == state,
                 "seed {seed}: {answer} changes the state"
@@ -78,14 +78,12 @@ impl Figures {
         let (_, mut state) = fresh(b);
         for _ in 0..STEPS {
             let turn = scheduler.turn(&state);
-            let (answer, next) =
-                step_in(&bundle, &state, turn.thread(), turn.fails(), &Slips::NONE);
+            let answer = step_in(&bundle, &mut state, turn.thread(), turn.fails());
             assert!(
                 answer <= 5,
                 "seed {seed}: an accepted bundle answers {answer}"
             );
             self.answers[usize::from(answer)] += 1;
-            state = next;
             self.check(&state, seed);
             if state.threads.iter().all(|thread| !thread.live) {
                 self.ended += 1;

@@ -3,6 +3,8 @@
 use super::random;
 use crate::rng::Rng;
 use reference::bundle::{DIRECTORY_ENTRY, TRAILER};
+use reference::entries::kind;
+use reference::instructions::names_address;
 
 /// Where the parts of one class's record lie.
 struct Record {
@@ -149,7 +151,7 @@ fn other_instruction(rng: &mut Rng, b: &mut [u8], record: &Record) {
 fn jump(rng: &mut Rng, b: &mut [u8], record: &Record) {
     let jumps: Vec<usize> = (0..record.code)
         .map(|index| record.instruction(index))
-        .filter(|&at| matches!(b[at], 6 | 9 | 11))
+        .filter(|&at| names_address(b[at]))
         .collect();
     if !jumps.is_empty() {
         let at = rng.pick(&jumps);
@@ -206,7 +208,7 @@ fn nudge(rng: &mut Rng, b: &mut [u8], record: &Record) {
         let Some(at) = entry_at(rng, record, row) else {
             return;
         };
-        if b[at] == 3 {
+        if b[at] == kind::REFERENCE {
             let byte = at + 2 + rng.below(2);
             b[byte] = if rng.chance(1, 2) {
                 b[byte] + 1

@@ -60,13 +60,7 @@ fn reach(code: &[Instr], from: &[usize]) -> Reach {
 }
 
 fn successors(instr: Instr, address: usize) -> impl Iterator<Item = usize> {
-    let jump = |target: Addr| Some(usize::from(target.0));
-    let (next, other) = match instr {
-        Instr::If(target) => (Some(address + 1), jump(target)),
-        Instr::New(_, handler) => (Some(address + 1), handler.and_then(jump)),
-        Instr::Athrow(handler) => (None, handler.and_then(jump)),
-        Instr::Return => (None, None),
-        _ => (Some(address + 1), None),
-    };
+    let next = instr.goes_on().then_some(address + 1);
+    let other = instr.jump().map(|target| usize::from(target.0));
     next.into_iter().chain(other)
 }

@@ -5,7 +5,7 @@ use crate::builder::{Method, Row};
 use crate::rng::Rng;
 use reference::bundle::{Addr, Instr, Var};
 use reference::entries::{Entry, Pair, MAX_WEIGHT};
-use reference::slips::{Slip, Slips};
+use reference::slips::{AsWritten, Slip};
 
 /// What holds between two instructions; the stack is bottom first.
 #[derive(Clone, Debug, PartialEq, Eq)]
@@ -76,7 +76,7 @@ pub struct Writer<'r> {
 
 /// Whether an entry may be dropped under the law.
 pub fn free(entry: Entry) -> bool {
-    entry.may_go(&Slips::NONE)
+    entry.may_go::<AsWritten>()
 }
 
 impl<'r> Writer<'r> {
@@ -253,7 +253,12 @@ impl<'r> Writer<'r> {
             return None;
         }
         let at = |label: Addr| self.spots[usize::from(label.0)].address.map(Addr);
-        let code: Option<Vec<Instr>> = self.code.iter().map(|i| resolve(*i, at)).collect();
+        // Addresses in the place of label numbers.
+        let resolved = |&instr: &Instr| match instr.jump() {
+            Some(label) => at(label).map(|address| instr.aimed(address)),
+            None => Some(instr),
+        };
+        let code: Option<Vec<Instr>> = self.code.iter().map(resolved).collect();
         let rows = self.rows.iter().map(finished_row).collect();
         let variables = self.now.variables.len();
         Some(Method {
@@ -269,14 +274,4 @@ impl<'r> Writer<'r> {
 fn finished_row(shape: &Shape) -> Row {
     let stack: Vec<Entry> = shape.stack.iter().rev().copied().collect();
     Row::new(&shape.variables, &stack)
-}
-
-/// Puts addresses in the place of label numbers.
-fn resolve(instr: Instr, at: impl Fn(Addr) -> Option<Addr>) -> Option<Instr> {
-    Some(match instr {
-        Instr::If(label) => Instr::If(at(label)?),
-        Instr::New(class, Some(label)) => Instr::New(class, Some(at(label)?)),
-        Instr::Athrow(Some(label)) => Instr::Athrow(Some(at(label)?)),
-        other => other,
-    })
 }
