@@ -1,5 +1,6 @@
 //! Schedules that follow the reference's machine, so that most steps count.
 
+use crate::families::interface::FEW_ARGUMENTS;
 use crate::rng::Rng;
 use crate::schedule::Scheduler;
 use reference::bundle::{Addr, Bundle, Instr};
@@ -7,7 +8,10 @@ use reference::machine::{answer, step_in, State};
 use trace::Turn;
 
 /// A schedule ends after so many steps in a row that change nothing.
-const IDLE: usize = 12;
+const PATIENCE: usize = 12;
+
+/// The same where threads wait for each other.
+const PATIENCE_WITH_OTHERS: usize = 40;
 
 /// The bits of a schedule's byte that say nothing.
 const IGNORED: u8 = 0x70;
@@ -21,17 +25,36 @@ pub struct Lively {
     pub caught_athrow: bool,
     /// Whether a failed new entered a handler.
     pub caught_new: bool,
+    /// Threads started with more than three arguments.
+    pub started_with_many: u64,
 }
 
 impl Lively {
     /// At most `steps` from this state.
-    pub fn follow(rng: &mut Rng, bundle: &[u8], mut state: State, steps: usize) -> Lively {
-        let mut scheduler = Scheduler::new(rng.number());
+    pub fn follow(rng: &mut Rng, bundle: &[u8], state: State, steps: usize) -> Lively {
+        let scheduler = Scheduler::new(rng.number());
+        Lively::run(rng, bundle, state, scheduler, [steps, PATIENCE])
+    }
+
+    /// The same with another thread at every step, so that threads which want
+    /// the same locks meet.
+    pub fn contend(rng: &mut Rng, bundle: &[u8], state: State, steps: usize) -> Lively {
+        let scheduler = Scheduler::restless(rng.number());
+        Lively::run(rng, bundle, state, scheduler, [steps, PATIENCE_WITH_OTHERS])
+    }
+
+    fn run(
+        rng: &mut Rng,
+        bundle: &[u8],
+        mut state: State,
+        mut scheduler: Scheduler,
+        [steps, patience]: [usize; 2],
+    ) -> Lively {
         let wild = rng.chance(1, 8);
         let opened = Bundle::open_with_code(bundle).ok();
         let mut lively = Lively::default();
         let mut idle = 0;
-        while lively.schedule.len() < steps && idle < IDLE {
+        while lively.schedule.len() < steps && idle < patience {
             let mut turn = scheduler.turn(&state);
             if wild {
                 turn.0 = match rng.chance(1, 10) {
@@ -56,7 +79,7 @@ impl Lively {
         lively
     }
 
-    /// Notes whether a step entered a handler.
+    /// Notes whether a step entered a handler or started a thread.
     fn watch(&mut self, bundle: &Bundle, before: Before, given: u8, after: &State) {
         if given != answer::WENT_ON {
             return;
@@ -64,6 +87,10 @@ impl Lively {
         match bundle.class(before.class).instruction(before.address) {
             Instr::Athrow(_) => self.caught_athrow = true,
             Instr::New(..) => self.caught_new |= before.objects == after.objects,
+            Instr::Start(class) => {
+                let many = bundle.class(class).arguments.len() > FEW_ARGUMENTS;
+                self.started_with_many += u64::from(many);
+            }
             _ => {}
         }
     }

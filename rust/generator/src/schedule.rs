@@ -31,7 +31,17 @@ impl Scheduler {
         }
     }
 
-    /// The next turn: mostly of a live thread, at times of any from 0 to 9.
+    /// Another thread at every turn, and no new fails.
+    pub fn restless(seed: u64) -> Scheduler {
+        Scheduler {
+            failing: 0,
+            changing: 1,
+            ..Scheduler::new(seed)
+        }
+    }
+
+    /// The next turn: mostly of a live thread, at times of any number that a
+    /// turn can name.
     pub fn turn(&mut self, state: &State) -> Turn {
         let live = |t: u8| {
             state
@@ -40,7 +50,7 @@ impl Scheduler {
                 .is_some_and(|thread| thread.live)
         };
         if !live(self.present) || self.rng.chance(1, self.changing) {
-            self.present = self.rng.below(10) as u8;
+            self.present = self.rng.below(16) as u8;
             let alive: Vec<u8> = (0..THREADS as u8).filter(|&t| live(t)).collect();
             if !alive.is_empty() && !self.rng.chance(1, 20) {
                 self.present = self.rng.pick(&alive);

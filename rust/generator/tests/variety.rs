@@ -1,7 +1,8 @@
 //! The generated inputs are varied enough to be worth comparing on.
 
-use generator::families::{self, flow, typed};
+use generator::families::{self, typed};
 use generator::lively::Lively;
+use generator::marks::MARKS;
 use generator::rng::Rng;
 use generator::schedule::valid_state;
 use reference::belongs::belongs;
@@ -16,21 +17,25 @@ fn a_seed_gives_one_bundle() {
 }
 
 #[test]
-fn every_verdict_comes_up() {
+fn every_verdict_and_every_mark_comes_up() {
     let mut verdicts = [0; 11];
-    let mut branching = 0;
+    let mut marks = MARKS.map(|(name, _)| (name, 0));
     for seed in 0..5_000 {
         let (_, b) = families::bundle(seed);
         let number = usize::from(verify(&b).number);
         verdicts[number] += 1;
-        branching += usize::from(number == 0 && flow::branches_under_lock(&b));
+        if number > 0 {
+            continue;
+        }
+        let bundle = Bundle::open_with_code(&b).expect("it is accepted");
+        for ((_, count), (_, has)) in marks.iter_mut().zip(MARKS) {
+            *count += usize::from(has(&bundle));
+        }
     }
     assert!(verdicts.iter().all(|&count| count >= 50), "{verdicts:?}");
-    assert!(
-        2 * branching >= verdicts[0],
-        "{branching} of {}",
-        verdicts[0]
-    );
+    assert!(marks.iter().all(|&(_, count)| count >= 50), "{marks:?}");
+    let (_, branching) = marks[0];
+    assert!(2 * branching >= verdicts[0], "{verdicts:?} {marks:?}");
 }
 
 #[test]

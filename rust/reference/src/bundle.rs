@@ -73,6 +73,8 @@ pub struct Limits {
 /// One class: the parts of its record, read in place.
 #[derive(Clone, Copy, Debug, Default)]
 pub struct Class<'a> {
+    /// Where its record begins in the bundle.
+    pub offset: usize,
     pub record: &'a [u8],
     pub arguments: &'a [u8],
     pub variables: usize,
@@ -149,6 +151,7 @@ impl<'a> Class<'a> {
         let (arguments, rest) = record.split_at(limits.arguments);
         let (code, rows) = rest.split_at(4 * limits.code);
         Class {
+            offset: limits.offset,
             record,
             arguments,
             variables: limits.variables,

@@ -5,7 +5,7 @@
 //! `report [bundles] [first seed]`
 
 use comparison::whys::Whys;
-use generator::families::{self, flow};
+use generator::families;
 use generator::rng::Rng;
 use generator::schedule::{any_state, Scheduler};
 use reference::bundle::Bundle;
@@ -20,7 +20,6 @@ const STEPS: usize = 250;
 struct Figures {
     verdicts: [u64; 11],
     whys: Whys,
-    branching: u64,
     answers: [u64; 6],
     /// Answers from random states of any bundle.
     answers_anywhere: [u64; 19],
@@ -72,7 +71,6 @@ impl Figures {
     }
 
     fn run_accepted(&mut self, b: &[u8], seed: u64) {
-        self.branching += u64::from(flow::branches_under_lock(b));
         let bundle = Bundle::open_with_code(b).expect("it is accepted");
         let mut scheduler = Scheduler::new(seed);
         let (_, mut state) = fresh(b);
@@ -118,10 +116,6 @@ impl Figures {
         self.whys.print();
         let accepted = self.verdicts[0];
         println!("accepted: {accepted}");
-        println!(
-            "accepted with a branch between lock and release: {}",
-            self.branching
-        );
         println!("answers 0..5 on accepted bundles: {:?}", self.answers);
         println!(
             "answers 0..18 from random states: {:?}",

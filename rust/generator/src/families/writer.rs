@@ -1,6 +1,7 @@
 //! Writes code while carrying its types forward, so that every instruction
 //! gets the row it needs.
 
+use super::interface::Interface;
 use crate::builder::{Method, Row};
 use crate::rng::Rng;
 use reference::bundle::{Addr, Instr, Var};
@@ -47,15 +48,6 @@ struct Spot {
     shape: Shape,
     address: Option<u16>,
     used: bool,
-}
-
-/// What methods of one bundle know of each other.
-#[derive(Clone, Debug)]
-pub struct Interface {
-    /// Every class's argument descriptors.
-    pub signatures: Vec<Vec<u8>>,
-    /// The class of what is thrown.
-    pub exception: u8,
 }
 
 /// The method under way.
