@@ -5,6 +5,7 @@ use crate::{proved, Answers, Differences, Part};
 use generator::families::{self, contending, typed};
 use generator::lively::Lively;
 use generator::rng::Rng;
+use generator::schedule::Scheduler;
 use reference::machine::{answer, fresh};
 use reference::state::THREADS;
 use trace::Turn;
@@ -71,10 +72,11 @@ fn run(seed: u64) -> (Vec<u8>, Lively, bool) {
         _ => rng.between(10, 200),
     };
     let (_, state) = fresh(&bundle);
-    let run = match contends {
-        true => Lively::contend(&mut rng, &bundle, state, steps),
-        false => Lively::follow(&mut rng, &bundle, state, steps),
+    let scheduler = match contends {
+        true => Scheduler::restless(rng.number()),
+        false => Scheduler::new(rng.number()),
     };
+    let run = Lively::follow(&mut rng, &bundle, state, scheduler, steps);
     (bundle, run, contends)
 }
 

@@ -5,7 +5,7 @@ use crate::{Answers, Differences, Part};
 use generator::families::{self, contending, typed};
 use generator::lively::Lively;
 use generator::rng::Rng;
-use generator::schedule::any_state;
+use generator::schedule::{any_state, Scheduler};
 use reference::machine::{answer, fresh, State};
 use std::io::Error;
 use trace::{encode_input, encode_output, follow, Input, Program};
@@ -71,7 +71,8 @@ fn run(seed: u64) -> (Vec<u8>, State, Vec<u8>) {
         true => any_state(&mut rng, &bundle),
         false => fresh(&bundle).1,
     };
-    let run = Lively::follow(&mut rng, &bundle, state.clone(), STEPS);
+    let scheduler = Scheduler::new(rng.number());
+    let run = Lively::follow(&mut rng, &bundle, state.clone(), scheduler, STEPS);
     (bundle, state, run.schedule)
 }
 

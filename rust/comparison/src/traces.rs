@@ -5,7 +5,7 @@ use crate::{Answers, Differences, Part};
 use generator::families::{self, typed};
 use generator::lively::Lively;
 use generator::rng::Rng;
-use generator::schedule::any_state;
+use generator::schedule::{any_state, Scheduler};
 use reference::machine::fresh;
 use std::io::Error;
 use trace::{decode_input, encode_input, encode_output, follow, Program, BAD_INPUT, MAX_STEPS};
@@ -93,7 +93,8 @@ fn input(rng: &mut Rng, seed: u64) -> Vec<u8> {
         _ => rng.below(150),
     };
     let begin = start.clone().unwrap_or_else(|| fresh(&bundle).1);
-    let turns = Lively::follow(rng, &bundle, begin, steps).schedule;
+    let scheduler = Scheduler::new(rng.number());
+    let turns = Lively::follow(rng, &bundle, begin, scheduler, steps).schedule;
     let mut input = encode_input(&bundle, start.as_ref(), &turns);
     if rng.chance(1, 8) {
         damage(rng, &mut input, bundle.len());

@@ -7,12 +7,6 @@ use reference::bundle::{Addr, Bundle, Instr};
 use reference::machine::{answer, step_in, State};
 use trace::Turn;
 
-/// A schedule ends after so many steps in a row that change nothing.
-const PATIENCE: usize = 12;
-
-/// The same where threads wait for each other.
-const PATIENCE_WITH_OTHERS: usize = 40;
-
 /// The bits of a schedule's byte that say nothing.
 const IGNORED: u8 = 0x70;
 
@@ -30,37 +24,22 @@ pub struct Lively {
 }
 
 impl Lively {
-    /// At most `steps` from this state.
-    pub fn follow(rng: &mut Rng, bundle: &[u8], state: State, steps: usize) -> Lively {
-        let scheduler = Scheduler::new(rng.number());
-        Lively::run(rng, bundle, state, scheduler, [steps, PATIENCE])
-    }
-
-    /// The same with another thread at every step, so that threads which want
-    /// the same locks meet.
-    pub fn contend(rng: &mut Rng, bundle: &[u8], state: State, steps: usize) -> Lively {
-        let scheduler = Scheduler::restless(rng.number());
-        Lively::run(rng, bundle, state, scheduler, [steps, PATIENCE_WITH_OTHERS])
-    }
-
-    fn run(
+    /// At most `steps` from this state, as the scheduler has it.
+    pub fn follow(
         rng: &mut Rng,
         bundle: &[u8],
         mut state: State,
         mut scheduler: Scheduler,
-        [steps, patience]: [usize; 2],
+        steps: usize,
     ) -> Lively {
         let wild = rng.chance(1, 8);
         let opened = Bundle::open_with_code(bundle).ok();
         let mut lively = Lively::default();
         let mut idle = 0;
-        while lively.schedule.len() < steps && idle < patience {
+        while lively.schedule.len() < steps && idle < scheduler.patience() {
             let mut turn = scheduler.turn(&state);
             if wild {
-                turn.0 = match rng.chance(1, 10) {
-                    true => rng.byte(),
-                    false => turn.0 | rng.byte() & IGNORED,
-                };
+                turn = run_wild(rng, turn);
             }
             let mut given = answer::BAD_BUNDLE;
             if let Some(bundle) = &opened {
@@ -68,10 +47,9 @@ impl Lively {
                 given = step_in(bundle, &mut state, turn.thread(), turn.fails());
                 lively.watch(bundle, before, given, &state);
             }
-            idle = if given > answer::UNCAUGHT {
-                idle + 1
-            } else {
-                0
+            idle = match given {
+                answer::WENT_ON..=answer::UNCAUGHT => 0,
+                _ => idle + 1,
             };
             lively.schedule.push(turn.0);
             lively.answers.push(given);
@@ -93,6 +71,14 @@ impl Lively {
             }
             _ => {}
         }
+    }
+}
+
+/// Another turn, or the same with bits that say nothing.
+fn run_wild(rng: &mut Rng, turn: Turn) -> Turn {
+    match rng.chance(1, 10) {
+        true => Turn(rng.byte()),
+        false => Turn(turn.0 | rng.byte() & IGNORED),
     }
 }
 

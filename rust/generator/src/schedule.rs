@@ -15,6 +15,8 @@ pub struct Scheduler {
     failing: usize,
     /// One in this many turns changes the thread.
     changing: usize,
+    /// A run ends after so many steps in a row that change nothing.
+    patience: usize,
     present: u8,
 }
 
@@ -27,17 +29,24 @@ impl Scheduler {
             rng,
             failing,
             changing,
+            patience: 12,
             present: 0,
         }
     }
 
-    /// Another thread at every turn, and no new fails.
+    /// Another thread at every turn, so that threads which want the same locks
+    /// meet and wait; no new fails.
     pub fn restless(seed: u64) -> Scheduler {
         Scheduler {
             failing: 0,
             changing: 1,
+            patience: 40,
             ..Scheduler::new(seed)
         }
+    }
+
+    pub fn patience(&self) -> usize {
+        self.patience
     }
 
     /// The next turn: mostly of a live thread, at times of any number that a

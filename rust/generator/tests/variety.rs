@@ -4,7 +4,7 @@ use generator::families::{self, typed};
 use generator::lively::Lively;
 use generator::marks::MARKS;
 use generator::rng::Rng;
-use generator::schedule::valid_state;
+use generator::schedule::{valid_state, Scheduler};
 use reference::belongs::belongs;
 use reference::bundle::Bundle;
 use reference::machine::fresh;
@@ -64,7 +64,8 @@ fn runs_enter_handlers() {
     for seed in 0..1_000 {
         let mut rng = Rng::new(seed);
         let b = typed::well_typed(&mut rng);
-        let run = Lively::follow(&mut rng, &b, fresh(&b).1, 100);
+        let scheduler = Scheduler::new(seed);
+        let run = Lively::follow(&mut rng, &b, fresh(&b).1, scheduler, 100);
         by_athrow += usize::from(run.caught_athrow);
         by_new += usize::from(run.caught_new);
     }
