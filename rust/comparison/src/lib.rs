@@ -1,45 +1,55 @@
 //! The proved code held against the reference on generated inputs.
 
+mod differences;
 pub mod digest;
+pub mod order;
 pub mod proved;
 pub mod runs;
+pub mod states;
 pub mod traces;
 pub mod verdicts;
 pub mod whys;
 
-use std::fmt::Display;
+pub use differences::Differences;
 
-/// How many differences are printed in full.
-const SHOWN: u64 = 5;
+/// One part of the comparison.
+pub trait Part {
+    /// Compares on the input of this seed.
+    fn generated(&mut self, seed: u64);
 
-/// Differences so far; the first few are printed as they are found.
+    fn print(&self);
+
+    fn differences(&self) -> u64;
+
+    /// What has to come up, and how often it did: where something never does,
+    /// it was not compared.
+    fn seen(&self) -> Vec<(String, u64)>;
+}
+
+/// How often each answer of the machine came up.
 #[derive(Debug, Default)]
-pub struct Differences(pub u64);
+struct Answers([u64; 19]);
 
-impl Differences {
-    /// `inputs` are what both sides were given.
-    fn add(&mut self, what: impl Display, inputs: &[&[u8]]) {
-        self.0 += 1;
-        if self.0 <= SHOWN {
-            println!("DIFFERENCE {what}");
-            for input in inputs {
-                println!("  {}", hex(input));
-            }
-        }
+impl Answers {
+    fn add(&mut self, answer: u8) {
+        self.0[usize::from(answer)] += 1;
     }
-}
 
-fn hex(bytes: &[u8]) -> String {
-    bytes.iter().map(|byte| format!("{byte:02x}")).collect()
-}
+    /// As `answer: count` words.
+    fn text(&self) -> String {
+        let named: Vec<String> = self
+            .0
+            .iter()
+            .enumerate()
+            .filter(|(_, &count)| count > 0)
+            .map(|(answer, count)| format!("{answer}: {count}"))
+            .collect();
+        named.join(", ")
+    }
 
-/// How often each answer of the machine came up, as `answer: count` words.
-fn answers_text(answers: &[u64]) -> String {
-    let named: Vec<String> = answers
-        .iter()
-        .enumerate()
-        .filter(|(_, &count)| count > 0)
-        .map(|(answer, count)| format!("{answer}: {count}"))
-        .collect();
-    named.join(", ")
+    fn seen(&self, wanted: impl Iterator<Item = u8>) -> Vec<(String, u64)> {
+        wanted
+            .map(|answer| (format!("answer {answer}"), self.0[usize::from(answer)]))
+            .collect()
+    }
 }

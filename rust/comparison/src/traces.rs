@@ -1,13 +1,12 @@
 //! The trace program's whole output held against the reference's: every
 //! answer and the state at the end, from the fresh state and from any other.
 
-use super::{answers_text, Differences};
+use crate::{Answers, Differences, Part};
 use generator::families::{self, typed};
 use generator::lively::Lively;
 use generator::rng::Rng;
-use generator::schedule::any_state;
+use generator::schedule::{any_state, Scheduler};
 use reference::machine::fresh;
-use reference::slips::Slips;
 use std::io::Error;
 use trace::{decode_input, encode_input, encode_output, follow, Program, BAD_INPUT, MAX_STEPS};
 
@@ -17,8 +16,8 @@ pub struct Traces {
     inputs: u64,
     given: u64,
     bad: u64,
-    answers: [u64; 19],
-    pub differences: Differences,
+    answers: Answers,
+    differences: Differences,
 }
 
 impl Traces {
@@ -30,7 +29,24 @@ impl Traces {
         })
     }
 
-    pub fn generated(&mut self, seed: u64) {
+    /// What the reference prints; counts what kind of input it was.
+    fn reference(&mut self, input: &[u8]) -> String {
+        self.inputs += 1;
+        let Some(input) = decode_input(input) else {
+            self.bad += 1;
+            return BAD_INPUT.to_string();
+        };
+        self.given += u64::from(input.start.is_some());
+        let output = follow(&input);
+        for step in &output.steps {
+            self.answers.add(step.answer);
+        }
+        encode_output(&output)
+    }
+}
+
+impl Part for Traces {
+    fn generated(&mut self, seed: u64) {
         let input = input(&mut Rng::new(seed ^ 0x7ACE_0000_0000_0000), seed);
         let reference = self.reference(&input);
         let proved = self
@@ -45,28 +61,23 @@ impl Traces {
         }
     }
 
-    /// What the reference prints; counts what kind of input it was.
-    fn reference(&mut self, input: &[u8]) -> String {
-        self.inputs += 1;
-        let Some(input) = decode_input(input) else {
-            self.bad += 1;
-            return BAD_INPUT.to_string();
-        };
-        self.given += u64::from(input.start.is_some());
-        let output = follow(&input, &Slips::NONE);
-        for step in &output.steps {
-            self.answers[usize::from(step.answer)] += 1;
-        }
-        encode_output(&output)
-    }
-
-    pub fn print(&self) {
+    fn print(&self) {
         println!(
             "trace inputs {} ({} with a given state, {} bad)",
             self.inputs, self.given, self.bad
         );
-        println!("  steps by answer: {}", answers_text(&self.answers));
+        println!("  steps by answer: {}", self.answers.text());
         println!("  differences: {}", self.differences.0);
+    }
+    fn differences(&self) -> u64 {
+        self.differences.0
+    }
+
+    fn seen(&self) -> Vec<(String, u64)> {
+        let mut seen = self.answers.seen((0..=5).chain(11..=18));
+        seen.push(("a given state".to_string(), self.given));
+        seen.push(("bad input".to_string(), self.bad));
+        seen
     }
 }
 
@@ -82,7 +93,8 @@ fn input(rng: &mut Rng, seed: u64) -> Vec<u8> {
         _ => rng.below(150),
     };
     let begin = start.clone().unwrap_or_else(|| fresh(&bundle).1);
-    let turns = Lively::follow(rng, &bundle, begin, steps).schedule;
+    let scheduler = Scheduler::new(rng.number());
+    let turns = Lively::follow(rng, &bundle, begin, scheduler, steps).schedule;
     let mut input = encode_input(&bundle, start.as_ref(), &turns);
     if rng.chance(1, 8) {
         damage(rng, &mut input, bundle.len());

@@ -1,11 +1,11 @@
 //! Both verifiers on the same bundles: number, class, address and why.
 
-use super::whys::Whys;
-use super::Differences;
-use crate::proved;
+use crate::whys::Whys;
+use crate::{proved, Differences, Part};
 use generator::builder::{case_a, lay_out};
-use generator::families::{self, flow};
-use reference::slips::Slips;
+use generator::families;
+use generator::marks::MARKS;
+use reference::bundle::Bundle;
 use reference::verify::verify;
 
 #[derive(Debug, Default)]
@@ -14,34 +14,30 @@ pub struct Verdicts {
     bytes: usize,
     numbers: [u64; 11],
     whys: Whys,
-    /// Accepted, with a branch between taking a lock and giving it back.
-    branching: u64,
-    pub differences: Differences,
+    /// Accepted bundles by what they have.
+    marks: [u64; MARKS.len()],
+    differences: Differences,
 }
 
 impl Verdicts {
-    /// The bundle of this seed.
-    pub fn generated(&mut self, seed: u64) {
-        let (family, bundle) = families::bundle(seed);
-        self.compare(&bundle, &format!("bundle seed {seed} {family:?}"));
-    }
-
     /// Case A with one byte changed, all of them to all values, and cut short
     /// everywhere.
-    pub fn around_case_a(&mut self) {
+    pub fn around_case_a() -> Verdicts {
+        let mut verdicts = Verdicts::default();
         let good = lay_out(&[case_a()]);
         for at in 0..good.len() {
             for byte in 0..=255 {
                 let mut bundle = good.clone();
                 bundle[at] = byte;
-                self.compare(&bundle, &format!("case A with {byte} at {at}"));
+                verdicts.compare(&bundle, &format!("case A with {byte} at {at}"));
             }
-            self.compare(&good[..at], &format!("case A cut at {at}"));
+            verdicts.compare(&good[..at], &format!("case A cut at {at}"));
         }
+        verdicts
     }
 
     fn compare(&mut self, bundle: &[u8], name: &str) {
-        let reference = verify(bundle, &Slips::NONE);
+        let reference = verify(bundle);
         let proved = proved::verdict(bundle);
         if proved != reference {
             // All four numbers, whatever the verdict: any of them may differ.
@@ -52,12 +48,31 @@ impl Verdicts {
         self.bytes += bundle.len();
         self.numbers[usize::from(reference.number)] += 1;
         self.whys.add(bundle, reference);
-        if reference.number == 0 && flow::branches_under_lock(bundle) {
-            self.branching += 1;
+        if reference.number == 0 {
+            self.mark(bundle);
         }
     }
 
-    pub fn print(&self) {
+    fn mark(&mut self, bundle: &[u8]) {
+        let bundle = Bundle::open_with_code(bundle).expect("it is accepted");
+        for (count, (_, has)) in self.marks.iter_mut().zip(MARKS) {
+            *count += u64::from(has(&bundle));
+        }
+    }
+
+    fn marks(&self) -> impl Iterator<Item = (String, u64)> + '_ {
+        let named = |(name, _): &(&str, _)| format!("accepted with {name}");
+        MARKS.iter().map(named).zip(self.marks)
+    }
+}
+
+impl Part for Verdicts {
+    fn generated(&mut self, seed: u64) {
+        let (family, bundle) = families::bundle(seed);
+        self.compare(&bundle, &format!("bundle seed {seed} {family:?}"));
+    }
+
+    fn print(&self) {
         let average = self.bytes / self.bundles.max(1) as usize;
         println!("bundles {}, {average} bytes on average", self.bundles);
         for (number, count) in self.numbers.iter().enumerate() {
@@ -66,10 +81,22 @@ impl Verdicts {
         }
         self.whys.print();
         println!("  accepted: {}", self.numbers[0]);
-        println!(
-            "  accepted with a branch between lock and release: {}",
-            self.branching
-        );
+        for (mark, count) in self.marks() {
+            println!("  {mark}: {count}");
+        }
         println!("  differences: {}", self.differences.0);
+    }
+
+    fn differences(&self) -> u64 {
+        self.differences.0
+    }
+
+    fn seen(&self) -> Vec<(String, u64)> {
+        let verdicts = self.numbers.iter().enumerate();
+        let verdicts = verdicts.map(|(number, &count)| (format!("verdict {number}"), count));
+        verdicts
+            .chain(self.whys.seen())
+            .chain(self.marks())
+            .collect()
     }
 }

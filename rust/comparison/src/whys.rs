@@ -37,6 +37,15 @@ impl Whys {
         })
     }
 
+    /// Each reason that there can be, and how often it was given.
+    pub fn seen(&self) -> impl Iterator<Item = (String, u64)> + '_ {
+        self.rows().flat_map(|(name, counts)| {
+            let counted = counts.into_iter().enumerate();
+            counted
+                .filter_map(move |(why, count)| Some((format!("{name} fails, why {why}"), count?)))
+        })
+    }
+
     /// The refusals whose reason `possible` denies.
     pub fn impossible(&self) -> u64 {
         let possible: u64 = self.rows().flat_map(|(_, counts)| counts).flatten().sum();

@@ -4,7 +4,6 @@
 use comparison::digest;
 use comparison::whys::Whys;
 use generator::families::{self, sized};
-use reference::slips::Slips;
 use reference::verify::verify;
 
 #[test]
@@ -12,7 +11,7 @@ fn every_rule_fails_for_every_reason() {
     let mut whys = Whys::default();
     for seed in 0..10_000 {
         let (_, b) = families::bundle(seed);
-        whys.add(&b, verify(&b, &Slips::NONE));
+        whys.add(&b, verify(&b));
     }
     for (name, counts) in whys.rows() {
         let often = counts.iter().flatten().all(|&count| count >= 10);
@@ -23,8 +22,10 @@ fn every_rule_fails_for_every_reason() {
 
 /// The benchmark's bundles are what their names say.
 #[test]
-fn the_endless_thread_never_ends() {
-    let b = sized::endless(7);
-    assert_eq!(verify(&b, &Slips::NONE).number, 0);
-    assert_eq!(digest::of_run(&b, &[0; 1_000], &Slips::NONE), 0);
+fn endless_threads_never_end() {
+    for threads in [1, 8] {
+        let b = sized::endless(threads, 6);
+        assert_eq!(verify(&b).number, 0);
+        assert_eq!(digest::of_run(&b, &sized::turns(threads, 1_000)), 0);
+    }
 }

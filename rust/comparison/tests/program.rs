@@ -4,7 +4,6 @@ use generator::builder::{case_a, lay_out};
 use generator::families;
 use reference::bundle::{Addr, Instr};
 use reference::entries::Entry;
-use reference::slips::Slips;
 use reference::verify::verify;
 use std::io::Write;
 use std::path::Path;
@@ -49,7 +48,7 @@ fn generated_bundles_print_the_reference_s_line() {
     let mut seen = [0; 11];
     for seed in 0..1_000 {
         let (family, bundle) = families::bundle(seed);
-        let verdict = verify(&bundle, &Slips::NONE);
+        let verdict = verify(&bundle);
         assert_eq!(
             line(&bundle),
             format!("{verdict}\n"),

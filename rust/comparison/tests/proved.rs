@@ -8,8 +8,7 @@ use generator::schedule::schedule;
 use reference::bundle::{Addr, Instr, Verdict};
 use reference::entries::Entry;
 use reference::machine::fresh;
-use reference::slips::{Slip, Slips};
-use reference::verify::verify;
+use reference::slips::Slip;
 
 #[test]
 fn cases_a_b_c_and_l() {
@@ -36,7 +35,7 @@ fn a_run_of_case_a() {
     let bundle = lay_out(&[case_a()]);
     // Seven steps end thread 0, the eighth finds it not live: 0 * 5, 1, 5.
     assert_eq!(proved::digest(&bundle, &[0; 8]), 31 + 5);
-    assert_eq!(digest::of_run(&bundle, &[0; 8], &Slips::NONE), 31 + 5);
+    assert_eq!(digest::of_run(&bundle, &[0; 8]), 31 + 5);
     // The first new fails: 2 for the thread that ends, then 5.
     assert_eq!(proved::digest(&bundle, &[0x80, 0]), 2 * 31 + 5);
     // No bundle: 17 from the fresh machine, and again from a step.
@@ -73,7 +72,7 @@ fn a_slipped_verifier_differs_from_the_proved_one() {
         let (_, b) = families::bundle(seed);
         let proved = proved::verdict(&b);
         for (slip, count) in &mut differing {
-            *count += usize::from(verify(&b, &slip.alone()) != proved);
+            *count += usize::from(slip.verify(&b) != proved);
         }
     }
     assert!(differing.iter().all(|&(_, n)| n >= 10), "{differing:?}");
@@ -86,7 +85,7 @@ fn a_slipped_machine_differs_from_the_proved_one() {
             .filter(|&seed| {
                 let b = typed::well_typed(&mut Rng::new(seed));
                 let turns = schedule(&b, &fresh(&b).1, seed, 100);
-                digest::of_run(&b, &turns, &slip.alone()) != proved::digest(&b, &turns)
+                digest::of_slipped_run(&b, &turns, slip) != proved::digest(&b, &turns)
             })
             .count();
         assert!(differing >= 10, "{slip:?}: {differing}");

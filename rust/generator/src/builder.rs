@@ -127,6 +127,23 @@ impl Layout {
         offset
     }
 
+    /// Places the method's record so that it begins with bytes that are there
+    /// already, as many as agree with it, but with one of its own at least.
+    pub fn place_over(&mut self, method: &Method) {
+        let record = method.record();
+        let shared = self.agreeing(&record);
+        let offset = self.bytes.len() - shared;
+        self.bytes.extend(&record[shared..]);
+        self.enter(method, offset);
+    }
+
+    /// How many of the last bytes, not all of them, are the first of `next`.
+    fn agreeing(&self, next: &[u8]) -> usize {
+        let most = next.len().min(self.bytes.len()).saturating_sub(1);
+        let agree = |&shared: &usize| self.bytes.ends_with(&next[..shared]);
+        (0..=most).rev().find(agree).unwrap_or(0)
+    }
+
     /// Enters a method whose record is said to stand at `offset` already.
     pub fn enter(&mut self, method: &Method, offset: usize) {
         self.directory.push(method.directory_entry(offset));
@@ -138,6 +155,13 @@ impl Layout {
         self.bytes.extend(self.directory.concat());
         let count = self.directory.len();
         seal(self.bytes, at, count, self.exception)
+    }
+
+    /// Appends the directory so that it begins with bytes that are there
+    /// already, and the trailer.
+    pub fn finish_over(self) -> Vec<u8> {
+        let at = self.bytes.len() - self.agreeing(&self.directory.concat());
+        self.finish_with_directory_at(at)
     }
 
     /// Overwrites the bytes at `at` with the directory, then adds the trailer.

@@ -1,10 +1,15 @@
 //! Bundles by seed: the same seed always gives the same bundle.
 
+mod anatomy;
 mod branching;
+pub mod breaches;
+pub mod contending;
 pub mod damage;
 pub mod edges;
 mod faults;
 pub mod flow;
+pub(crate) mod interface;
+mod overlapping;
 mod probes;
 pub mod random;
 mod settle;
@@ -12,6 +17,7 @@ pub mod sized;
 mod tempt;
 mod throwing;
 pub mod typed;
+mod unreached;
 mod writer;
 
 use crate::rng::Rng;
@@ -36,21 +42,27 @@ pub enum Family {
     Probe,
     /// Overlaps, odd offsets, limits at their edges.
     Edge,
+    /// Well-typed methods whose records share bytes.
+    Overlapping,
+    /// Threads that want the same locks.
+    Contending,
     /// What only a slipped verifier accepts.
     Tempting,
 }
 
 impl Family {
     /// How many of every hundred bundles come from each family.
-    const SHARES: [(Family, usize); 9] = [
-        (Family::Bytes, 7),
+    const SHARES: [(Family, usize); 11] = [
+        (Family::Bytes, 6),
         (Family::Structured, 6),
         (Family::StructuredDamaged, 6),
-        (Family::Typed, 24),
-        (Family::TypedDamaged, 18),
+        (Family::Typed, 22),
+        (Family::TypedDamaged, 17),
         (Family::Faulty, 8),
         (Family::Probe, 14),
         (Family::Edge, 7),
+        (Family::Overlapping, 3),
+        (Family::Contending, 1),
         (Family::Tempting, 10),
     ];
 
@@ -86,6 +98,8 @@ impl Family {
             }
             Family::Probe => probes::probe(rng),
             Family::Edge => edges::edge(rng),
+            Family::Overlapping => overlapping::overlapping(rng),
+            Family::Contending => contending::contending(rng).lay_out(),
             Family::Tempting => {
                 let slip = rng.pick(&Slip::VERIFIER);
                 typed::tempting(rng, slip)

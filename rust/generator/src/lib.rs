@@ -3,5 +3,6 @@
 pub mod builder;
 pub mod families;
 pub mod lively;
+pub mod marks;
 pub mod rng;
 pub mod schedule;

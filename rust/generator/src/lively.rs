@@ -1,14 +1,11 @@
 //! Schedules that follow the reference's machine, so that most steps count.
 
+use crate::families::interface::FEW_ARGUMENTS;
 use crate::rng::Rng;
 use crate::schedule::Scheduler;
 use reference::bundle::{Addr, Bundle, Instr};
 use reference::machine::{answer, step_in, State};
-use reference::slips::Slips;
 use trace::Turn;
-
-/// A schedule ends after so many steps in a row that change nothing.
-const IDLE: usize = 12;
 
 /// The bits of a schedule's byte that say nothing.
 const IGNORED: u8 = 0x70;
@@ -22,35 +19,37 @@ pub struct Lively {
     pub caught_athrow: bool,
     /// Whether a failed new entered a handler.
     pub caught_new: bool,
+    /// Threads started with more than three arguments.
+    pub started_with_many: u64,
 }
 
 impl Lively {
-    /// At most `steps` from this state.
-    pub fn follow(rng: &mut Rng, bundle: &[u8], mut state: State, steps: usize) -> Lively {
-        let mut scheduler = Scheduler::new(rng.number());
+    /// At most `steps` from this state, as the scheduler has it.
+    pub fn follow(
+        rng: &mut Rng,
+        bundle: &[u8],
+        mut state: State,
+        mut scheduler: Scheduler,
+        steps: usize,
+    ) -> Lively {
         let wild = rng.chance(1, 8);
         let opened = Bundle::open_with_code(bundle).ok();
         let mut lively = Lively::default();
         let mut idle = 0;
-        while lively.schedule.len() < steps && idle < IDLE {
+        while lively.schedule.len() < steps && idle < scheduler.patience() {
             let mut turn = scheduler.turn(&state);
             if wild {
-                turn.0 = match rng.chance(1, 10) {
-                    true => rng.byte(),
-                    false => turn.0 | rng.byte() & IGNORED,
-                };
+                turn = run_wild(rng, turn);
             }
             let mut given = answer::BAD_BUNDLE;
             if let Some(bundle) = &opened {
-                let (answer, next) =
-                    step_in(bundle, &state, turn.thread(), turn.fails(), &Slips::NONE);
-                lively.watch(bundle, &state, turn, answer, &next);
-                (given, state) = (answer, next);
+                let before = Before::look(&state, turn);
+                given = step_in(bundle, &mut state, turn.thread(), turn.fails());
+                lively.watch(bundle, before, given, &state);
             }
-            idle = if given > answer::UNCAUGHT {
-                idle + 1
-            } else {
-                0
+            idle = match given {
+                answer::WENT_ON..=answer::UNCAUGHT => 0,
+                _ => idle + 1,
             };
             lively.schedule.push(turn.0);
             lively.answers.push(given);
@@ -58,17 +57,47 @@ impl Lively {
         lively
     }
 
-    /// Notes whether a step entered a handler.
-    fn watch(&mut self, bundle: &Bundle, before: &State, turn: Turn, given: u8, after: &State) {
+    /// Notes whether a step entered a handler or started a thread.
+    fn watch(&mut self, bundle: &Bundle, before: Before, given: u8, after: &State) {
         if given != answer::WENT_ON {
             return;
         }
-        let thread = &before.threads[usize::from(turn.thread())];
-        let class = bundle.class(thread.class);
-        match class.instruction(Addr(thread.address)) {
+        match bundle.class(before.class).instruction(before.address) {
             Instr::Athrow(_) => self.caught_athrow = true,
             Instr::New(..) => self.caught_new |= before.objects == after.objects,
+            Instr::Start(class) => {
+                let many = bundle.class(class).arguments.len() > FEW_ARGUMENTS;
+                self.started_with_many += u64::from(many);
+            }
             _ => {}
+        }
+    }
+}
+
+/// Another turn, or the same with bits that say nothing.
+fn run_wild(rng: &mut Rng, turn: Turn) -> Turn {
+    match rng.chance(1, 10) {
+        true => Turn(rng.byte()),
+        false => Turn(turn.0 | rng.byte() & IGNORED),
+    }
+}
+
+/// Where a step finds its thread, and how many objects.
+#[derive(Clone, Copy)]
+struct Before {
+    class: u8,
+    address: Addr,
+    objects: u8,
+}
+
+impl Before {
+    fn look(state: &State, turn: Turn) -> Before {
+        let thread = state.threads.get(usize::from(turn.thread()));
+        let (class, address) = thread.map_or((0, 0), |thread| (thread.class, thread.address));
+        Before {
+            class,
+            address: Addr(address),
+            objects: state.objects,
         }
     }
 }

@@ -2,10 +2,9 @@
 
 use crate::rng::Rng;
 use reference::bundle::{Addr, Bundle, Class, Instr};
-use reference::machine::{
-    step_in, State, Thread, Value, MAX_COUNT, OBJECTS, PLACES, THREADS, THROWN_BY_NEW,
-};
-use reference::slips::Slips;
+use reference::entries::kind;
+use reference::machine::step_in;
+use reference::state::{State, Thread, Value, MAX_COUNT, OBJECTS, PLACES, THREADS, THROWN_BY_NEW};
 use trace::Turn;
 
 /// How a schedule treats its threads.
@@ -16,6 +15,8 @@ pub struct Scheduler {
     failing: usize,
     /// One in this many turns changes the thread.
     changing: usize,
+    /// A run ends after so many steps in a row that change nothing.
+    patience: usize,
     present: u8,
 }
 
@@ -28,11 +29,28 @@ impl Scheduler {
             rng,
             failing,
             changing,
+            patience: 12,
             present: 0,
         }
     }
 
-    /// The next turn: mostly of a live thread, at times of any from 0 to 9.
+    /// Another thread at every turn, so that threads which want the same locks
+    /// meet and wait; no new fails.
+    pub fn restless(seed: u64) -> Scheduler {
+        Scheduler {
+            failing: 0,
+            changing: 1,
+            patience: 40,
+            ..Scheduler::new(seed)
+        }
+    }
+
+    pub fn patience(&self) -> usize {
+        self.patience
+    }
+
+    /// The next turn: mostly of a live thread, at times of any number that a
+    /// turn can name.
     pub fn turn(&mut self, state: &State) -> Turn {
         let live = |t: u8| {
             state
@@ -41,7 +59,7 @@ impl Scheduler {
                 .is_some_and(|thread| thread.live)
         };
         if !live(self.present) || self.rng.chance(1, self.changing) {
-            self.present = self.rng.below(10) as u8;
+            self.present = self.rng.below(16) as u8;
             let alive: Vec<u8> = (0..THREADS as u8).filter(|&t| live(t)).collect();
             if !alive.is_empty() && !self.rng.chance(1, 20) {
                 self.present = self.rng.pick(&alive);
@@ -63,7 +81,7 @@ pub fn schedule(b: &[u8], start: &State, seed: u64, steps: usize) -> Vec<u8> {
         let turn = scheduler.turn(&state);
         turns.push(turn.0);
         if let Some(bundle) = &bundle {
-            state = step_in(bundle, &state, turn.thread(), turn.fails(), &Slips::NONE).1;
+            step_in(bundle, &mut state, turn.thread(), turn.fails());
         }
     }
     turns
@@ -218,11 +236,11 @@ fn follow_row(rng: &mut Rng, class: &Class, state: &State, thread: &mut Thread) 
 
 fn value_like(rng: &mut Rng, state: &State, raw: &[u8; 4]) -> Value {
     let alike: Vec<u8> = (0..state.objects)
-        .filter(|&object| raw[0] == 3 && state.classes[usize::from(object)] == raw[1])
+        .filter(|&object| raw[0] == kind::REFERENCE && state.classes[usize::from(object)] == raw[1])
         .collect();
     match raw[0] {
-        1 => integer(rng),
-        3 if !alike.is_empty() => Value::Ref(rng.pick(&alike)),
+        kind::INT => integer(rng),
+        kind::REFERENCE if !alike.is_empty() => Value::Ref(rng.pick(&alike)),
         _ => value(rng, state),
     }
 }

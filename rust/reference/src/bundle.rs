@@ -73,6 +73,8 @@ pub struct Limits {
 /// One class: the parts of its record, read in place.
 #[derive(Clone, Copy, Debug, Default)]
 pub struct Class<'a> {
+    /// Where its record begins in the bundle.
+    pub offset: usize,
     pub record: &'a [u8],
     pub arguments: &'a [u8],
     pub variables: usize,
@@ -149,6 +151,7 @@ impl<'a> Class<'a> {
         let (arguments, rest) = record.split_at(limits.arguments);
         let (code, rows) = rest.split_at(4 * limits.code);
         Class {
+            offset: limits.offset,
             record,
             arguments,
             variables: limits.variables,
@@ -184,21 +187,23 @@ impl<'a> Class<'a> {
         }
     }
 
-    fn raw_instruction(&self, address: Addr) -> Raw {
-        self.code[usize::from(address.0 - 1)]
-    }
-
-    /// Breaches of the table at one address (verdict 7).
-    fn keeps_table(&self, address: Addr, classes: u8) -> bool {
-        let raw = self.raw_instruction(address);
+    /// The first address at which the table is broken (verdict 7).
+    fn table_breach(&self, classes: u8) -> Option<u16> {
         let bounds = Bounds::new(self.variables, classes, self.code_length());
-        // Nothing may run past address k.
-        bounds.allow(raw) && (address.0 < self.code_length() || ends_path(raw))
+        let broken = self.code.iter().position(|&raw| !bounds.allow(raw));
+        match broken {
+            Some(index) => Some(index as u16 + 1),
+            // Nothing may run past address k.
+            None if !self.code.last().is_some_and(|&raw| ends_path(raw)) => {
+                Some(self.code_length())
+            }
+            None => None,
+        }
     }
 
     /// The instruction at an address of code that verdict 7 has passed.
     pub fn instruction(&self, address: Addr) -> Instr {
-        Instr::read(self.raw_instruction(address))
+        Instr::read(self.code[usize::from(address.0 - 1)])
     }
 }
 
@@ -234,10 +239,8 @@ impl<'a> Bundle<'a> {
     /// Verdict 7 over all classes and addresses.
     fn check_code(&self) -> Result<(), Verdict> {
         for (number, class) in self.classes() {
-            for address in 1..=class.code_length() {
-                if !class.keeps_table(Addr(address), self.count) {
-                    return Err(Verdict::new(7, number, address));
-                }
+            if let Some(address) = class.table_breach(self.count) {
+                return Err(Verdict::new(7, number, address));
             }
         }
         Ok(())

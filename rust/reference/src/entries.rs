@@ -1,9 +1,16 @@
 //! The four-byte entries of a row, and how one compares with another.
 
-use crate::slips::{Slip, Slips};
+use crate::slips::{Law, Slip};
 
 /// An entry as it stands in the bundle.
 pub type Raw = [u8; 4];
+
+/// The first byte of an entry in use says what it is.
+pub mod kind {
+    pub const INT: u8 = 1;
+    pub const TOP: u8 = 2;
+    pub const REFERENCE: u8 = 3;
+}
 
 /// Stack entries below the depth in use.
 pub const UNUSED: Raw = [0, 0, 0, 0];
@@ -91,19 +98,19 @@ impl Pair {
 /// Whether the four bytes are Int, Top or a reference to one of the bundle's
 /// `classes`; anything else draws verdict 8.
 pub fn well_formed(raw: Raw, classes: u8) -> bool {
-    let [kind, class, dip, end] = raw;
+    let [first, class, dip, end] = raw;
     // Kinds follow no pattern, so the tests are joined without branches.
-    let plain = (kind == 1) | (kind == 2);
+    let plain = (first == kind::INT) | (first == kind::TOP);
     let reference = (class < classes) & (dip <= 63) & (1..=127).contains(&end);
-    (plain & (class | dip | end == 0)) | ((kind == 3) & reference)
+    (plain & (class | dip | end == 0)) | ((first == kind::REFERENCE) & reference)
 }
 
 impl Entry {
     /// Reads an entry already known to be well formed.
     pub fn read(raw: Raw) -> Entry {
         match raw[0] {
-            1 => Entry::Int,
-            2 => Entry::Top,
+            kind::INT => Entry::Int,
+            kind::TOP => Entry::Top,
             _ => Entry::Ref {
                 class: raw[1],
                 pair: Pair::new(i16::from(raw[2]), i16::from(raw[3]) - END_BIAS),
@@ -114,9 +121,12 @@ impl Entry {
     /// The entry as it stands in a bundle.
     pub fn bytes(self) -> Raw {
         match self {
-            Entry::Int => [1, 0, 0, 0],
-            Entry::Top => [2, 0, 0, 0],
-            Entry::Ref { class, pair } => [3, class, pair.dip as u8, (pair.end + END_BIAS) as u8],
+            Entry::Int => [kind::INT, 0, 0, 0],
+            Entry::Top => [kind::TOP, 0, 0, 0],
+            Entry::Ref { class, pair } => {
+                let end = (pair.end + END_BIAS) as u8;
+                [kind::REFERENCE, class, pair.dip as u8, end]
+            }
         }
     }
 
@@ -158,10 +168,10 @@ impl Entry {
     }
 
     /// The rule "May go".
-    pub fn may_go(self, slips: &Slips) -> bool {
+    pub fn may_go<L: Law>(self) -> bool {
         match self {
             Entry::Int | Entry::Top => true,
-            Entry::Ref { pair, .. } => pair.end >= -i16::from(slips.has(Slip::MayGoMinusOne)),
+            Entry::Ref { pair, .. } => pair.end >= -i16::from(L::slips(Slip::MayGoMinusOne)),
         }
     }
 
@@ -190,6 +200,6 @@ pub fn all_fit(row: &[Raw], next: &[Raw]) -> Outcome {
 }
 
 /// Every entry may go.
-pub fn all_may_go(entries: &[Raw], slips: &Slips) -> bool {
-    entries.iter().all(|&raw| Entry::read(raw).may_go(slips))
+pub fn all_may_go<L: Law>(entries: &[Raw]) -> bool {
+    entries.iter().all(|&raw| Entry::read(raw).may_go::<L>())
 }

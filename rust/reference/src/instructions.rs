@@ -43,21 +43,45 @@ enum Field {
     Handler,
 }
 
+/// One instruction's line of the table.
+struct Line {
+    name: &'static str,
+    operand: Operand,
+    field: Field,
+}
+
+const fn line(name: &'static str, operand: Operand, field: Field) -> Line {
+    Line {
+        name,
+        operand,
+        field,
+    }
+}
+
 /// The table, by opcode from 1.
-const TABLE: [(Operand, Field); 12] = [
-    (Operand::Zero, Field::Zero),     // inc
-    (Operand::Zero, Field::Zero),     // pop
-    (Operand::Zero, Field::Zero),     // push0
-    (Operand::Variable, Field::Zero), // load
-    (Operand::Variable, Field::Zero), // store
-    (Operand::Zero, Field::Target),   // if
-    (Operand::Variable, Field::Zero), // monitorenter
-    (Operand::Variable, Field::Zero), // monitorexit
-    (Operand::Class, Field::Handler), // new
-    (Operand::Class, Field::Zero),    // start
-    (Operand::Zero, Field::Handler),  // athrow
-    (Operand::Zero, Field::Zero),     // return
+const TABLE: [Line; 12] = [
+    line("inc", Operand::Zero, Field::Zero),
+    line("pop", Operand::Zero, Field::Zero),
+    line("push0", Operand::Zero, Field::Zero),
+    line("load", Operand::Variable, Field::Zero),
+    line("store", Operand::Variable, Field::Zero),
+    line("if", Operand::Zero, Field::Target),
+    line("monitorenter", Operand::Variable, Field::Zero),
+    line("monitorexit", Operand::Variable, Field::Zero),
+    line("new", Operand::Class, Field::Handler),
+    line("start", Operand::Class, Field::Zero),
+    line("athrow", Operand::Zero, Field::Handler),
+    line("return", Operand::Zero, Field::Zero),
 ];
+
+fn line_of(opcode: u8) -> Option<&'static Line> {
+    TABLE.get(usize::from(opcode).wrapping_sub(1))
+}
+
+/// Whether instructions of this opcode have a target or may have a handler.
+pub fn names_address(opcode: u8) -> bool {
+    line_of(opcode).is_some_and(|line| !matches!(line.field, Field::Zero))
+}
 
 /// What operands and address fields of one class's code stay within, by the
 /// kinds of the table.
@@ -80,7 +104,12 @@ impl Bounds {
     /// Whether four bytes keep to the table.
     pub fn allow(&self, raw: Raw) -> bool {
         let [opcode, operand, high, low] = raw;
-        let Some(&(kind, field)) = TABLE.get(usize::from(opcode).wrapping_sub(1)) else {
+        let Some(&Line {
+            operand: kind,
+            field,
+            ..
+        }) = line_of(opcode)
+        else {
             return false;
         };
         let address = u16::from_be_bytes([high, low]);
@@ -97,20 +126,15 @@ pub fn ends_path(raw: Raw) -> bool {
 
 impl Instr {
     /// By opcode from 1.
-    pub const NAMES: [&'static str; 12] = [
-        "inc",
-        "pop",
-        "push0",
-        "load",
-        "store",
-        "if",
-        "monitorenter",
-        "monitorexit",
-        "new",
-        "start",
-        "athrow",
-        "return",
-    ];
+    pub const NAMES: [&'static str; TABLE.len()] = {
+        let mut names = [""; TABLE.len()];
+        let mut index = 0;
+        while index < TABLE.len() {
+            names[index] = TABLE[index].name;
+            index += 1;
+        }
+        names
+    };
 
     pub fn opcode(self) -> u8 {
         self.bytes()[0]
@@ -156,5 +180,29 @@ impl Instr {
         };
         let [high, low] = u16::to_be_bytes(address);
         [opcode, operand, high, low]
+    }
+
+    /// Whether the next address may follow.
+    pub fn goes_on(self) -> bool {
+        !matches!(self, Instr::Athrow(_) | Instr::Return)
+    }
+
+    /// Where else it may lead: its target or its handler.
+    pub fn jump(self) -> Option<Addr> {
+        match self {
+            Instr::If(target) => Some(target),
+            Instr::New(_, handler) | Instr::Athrow(handler) => handler,
+            _ => None,
+        }
+    }
+
+    /// The same instruction with another target or handler, if it has one.
+    pub fn aimed(self, at: Addr) -> Instr {
+        match self {
+            Instr::If(_) => Instr::If(at),
+            Instr::New(class, Some(_)) => Instr::New(class, Some(at)),
+            Instr::Athrow(Some(_)) => Instr::Athrow(Some(at)),
+            other => other,
+        }
     }
 }

@@ -4,11 +4,13 @@
 //! requests of document 02 and the readings that settle them, so that it can
 //! be held against the proved implementation without sharing its mistakes.
 
+pub mod belongs;
 pub mod bundle;
 pub mod entries;
 pub mod instructions;
 pub mod machine;
 pub mod rules;
 pub mod slips;
+pub mod state;
 mod throws;
 pub mod verify;

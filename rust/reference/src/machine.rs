@@ -1,14 +1,12 @@
 //! The machine: a fresh state, and one step of one thread.
 
+use crate::belongs::belongs;
 use crate::bundle::{Addr, Bundle, Class, Instr, Var, INT};
-use crate::slips::{Slip, Slips};
+use crate::slips::{AsWritten, Law, Slip};
+use crate::state::{MAX_COUNT, OBJECTS, PLACES, THREADS, THROWN_BY_NEW};
+use std::marker::PhantomData;
 
-pub const THREADS: usize = 8;
-pub const OBJECTS: usize = 32;
-pub const PLACES: usize = 16;
-pub const MAX_COUNT: u16 = 2_047;
-/// The object that is there from the start, and that a failed new throws.
-pub const THROWN_BY_NEW: u8 = 0;
+pub use crate::state::{State, Thread, Value};
 
 /// The answers of a step, by their numbers in the document.
 pub mod answer {
@@ -28,93 +26,6 @@ pub mod answer {
     pub const BAD_STATE: u8 = 18;
 }
 
-/// A value: a 32-bit integer or a reference to an object.
-#[derive(Clone, Copy, Debug, PartialEq, Eq)]
-pub enum Value {
-    Int(i32),
-    Ref(u8),
-}
-
-impl Value {
-    /// What every place out of use becomes.
-    pub const ZERO: Value = Value::Int(0);
-}
-
-/// One thread; stack place 0 is the bottom.
-#[derive(Clone, Copy, Debug, PartialEq, Eq)]
-pub struct Thread {
-    pub live: bool,
-    pub class: u8,
-    pub address: u16,
-    pub depth: u8,
-    pub variables: [Value; PLACES],
-    pub stack: [Value; PLACES],
-}
-
-/// The whole machine; the count of thread t on object o is at t * 32 + o.
-#[derive(Clone, Debug, PartialEq, Eq)]
-pub struct State {
-    pub threads: [Thread; THREADS],
-    pub counts: [u16; THREADS * OBJECTS],
-    pub objects: u8,
-    pub classes: [u8; OBJECTS],
-}
-
-impl Thread {
-    pub const EMPTY: Thread = Thread {
-        live: false,
-        class: 0,
-        address: 0,
-        depth: 0,
-        variables: [Value::ZERO; PLACES],
-        stack: [Value::ZERO; PLACES],
-    };
-
-    fn push(&mut self, value: Value) {
-        self.stack[usize::from(self.depth)] = value;
-        self.depth += 1;
-    }
-
-    /// Takes the top; its place falls out of use.
-    fn pop(&mut self) -> Value {
-        self.depth -= 1;
-        std::mem::replace(&mut self.stack[usize::from(self.depth)], Value::ZERO)
-    }
-
-    fn empty_stack(&mut self) {
-        self.stack[..usize::from(self.depth)].fill(Value::ZERO);
-        self.depth = 0;
-    }
-
-    /// The value `below` places under the top.
-    fn peek(&self, below: usize) -> Value {
-        self.stack[usize::from(self.depth) - 1 - below]
-    }
-}
-
-impl State {
-    /// No live thread, no object, and all else 0.
-    pub const EMPTY: State = State {
-        threads: [Thread::EMPTY; THREADS],
-        counts: [0; THREADS * OBJECTS],
-        objects: 0,
-        classes: [0; OBJECTS],
-    };
-
-    pub fn count(&self, thread: usize, object: usize) -> u16 {
-        self.counts[thread * OBJECTS + object]
-    }
-
-    /// The thread's counts, one for each object.
-    pub fn counts_of(&self, thread: usize) -> &[u16] {
-        &self.counts[thread * OBJECTS..(thread + 1) * OBJECTS]
-    }
-
-    fn is_of_class(&self, value: Value, class: u8) -> bool {
-        matches!(value, Value::Ref(o) if self.classes[usize::from(o)] == class)
-    }
-}
-
 /// A fresh machine: 0 and the state, or 17 and the empty state.
 pub fn fresh(b: &[u8]) -> (u8, State) {
     let mut state = State::EMPTY;
@@ -128,35 +39,31 @@ pub fn fresh(b: &[u8]) -> (u8, State) {
     (answer::WENT_ON, state)
 }
 
-/// One step of one thread. Every answer but 0, 1, 2 gives back the state as
-/// given.
-pub fn step(b: &[u8], state: &State, thread: u8, fails: bool, slips: &Slips) -> (u8, State) {
+/// One step of one thread. The state is changed with the answers 0, 1, 2 and
+/// with no other.
+pub fn step(b: &[u8], state: &mut State, thread: u8, fails: bool) -> u8 {
     match Bundle::open_with_code(b) {
-        Ok(bundle) => step_in(&bundle, state, thread, fails, slips),
-        Err(_) => (answer::BAD_BUNDLE, state.clone()),
+        Ok(bundle) => step_in(&bundle, state, thread, fails),
+        Err(_) => answer::BAD_BUNDLE,
     }
 }
 
 /// The same step for a bundle already opened, so that long runs open it once.
-pub fn step_in(
-    bundle: &Bundle,
-    state: &State,
-    thread: u8,
-    fails: bool,
-    slips: &Slips,
-) -> (u8, State) {
-    let mut next = state.clone();
-    let given = match admit(bundle, state, thread) {
-        Ok(mover) => Turn {
+pub fn step_in(bundle: &Bundle, state: &mut State, thread: u8, fails: bool) -> u8 {
+    step_by::<AsWritten>(bundle, state, thread, fails)
+}
+
+pub(crate) fn step_by<L: Law>(bundle: &Bundle, state: &mut State, thread: u8, fails: bool) -> u8 {
+    match admit(bundle, state, thread) {
+        Ok(mover) => Turn::<L> {
             bundle,
             mover,
             fails,
-            slips,
+            law: PhantomData,
         }
-        .take(&mut next),
+        .take(state),
         Err(refusal) => refusal,
-    };
-    (given, next)
+    }
 }
 
 /// 18, then 5; gives the thread's number as an index.
@@ -170,63 +77,15 @@ fn admit(bundle: &Bundle, state: &State, thread: u8) -> Result<usize, u8> {
     }
 }
 
-/// Whether the state is one of this bundle; if not, the answer is 18.
-pub fn belongs(bundle: &Bundle, state: &State) -> bool {
-    let objects = usize::from(state.objects);
-    objects <= OBJECTS
-        && state.objects > THROWN_BY_NEW
-        && state.classes[usize::from(THROWN_BY_NEW)] == bundle.exception()
-        && state.classes[..objects]
-            .iter()
-            .all(|&class| class < bundle.count())
-        && state
-            .threads
-            .iter()
-            .all(|t| !t.live || thread_belongs(bundle, t, state.objects))
-        && (0..OBJECTS).all(|object| counts_belong(state, object))
-}
-
-fn thread_belongs(bundle: &Bundle, thread: &Thread, objects: u8) -> bool {
-    if thread.class >= bundle.count() {
-        return false;
-    }
-    let class = bundle.class(thread.class);
-    let depth = usize::from(thread.depth);
-    let points_somewhere = |value: &Value| !matches!(*value, Value::Ref(o) if o >= objects);
-    (1..=class.code_length()).contains(&thread.address)
-        && depth <= class.stack_limit
-        && thread.variables[..class.variables]
-            .iter()
-            .all(points_somewhere)
-        && thread.stack[..depth].iter().all(points_somewhere)
-}
-
-/// One object's counts: in bounds, on an object there is, by one live holder.
-fn counts_belong(state: &State, object: usize) -> bool {
-    let mut holders = 0;
-    for thread in 0..THREADS {
-        let count = state.count(thread, object);
-        if count == 0 {
-            continue;
-        }
-        holders += 1;
-        if count > MAX_COUNT || object >= usize::from(state.objects) || !state.threads[thread].live
-        {
-            return false;
-        }
-    }
-    holders <= 1
-}
-
 /// One step that 17, 18 and 5 have let through.
-struct Turn<'a> {
+struct Turn<'a, L> {
     bundle: &'a Bundle<'a>,
     mover: usize,
     fails: bool,
-    slips: &'a Slips,
+    law: PhantomData<L>,
 }
 
-impl Turn<'_> {
+impl<L: Law> Turn<'_, L> {
     /// Looks for a refusal first and only then writes, so that a refused
     /// state stays as given.
     fn take(&self, state: &mut State) -> u8 {
@@ -307,7 +166,7 @@ impl Turn<'_> {
     /// The object whose count monitorenter or monitorexit moves.
     fn locked(&self, state: &State, v: Var) -> Result<usize, u8> {
         match self.thread(state).variables[usize::from(v.0)] {
-            Value::Ref(_) if self.slips.has(Slip::CountByVariable) => Ok(usize::from(v.0)),
+            Value::Ref(_) if L::slips(Slip::CountByVariable) => Ok(usize::from(v.0)),
             Value::Ref(object) => Ok(usize::from(object)),
             Value::Int(_) => Err(answer::WRONG_KIND),
         }
@@ -319,10 +178,7 @@ impl Turn<'_> {
         let held_elsewhere = (0..THREADS).any(|t| t != self.mover && state.count(t, object) > 0);
         refuse_unless(own < MAX_COUNT, answer::COUNT_FULL)?;
         refuse_unless(!held_elsewhere, answer::HELD)?;
-        refuse_unless(
-            !(self.slips.has(Slip::ReentryWaits) && own > 0),
-            answer::HELD,
-        )
+        refuse_unless(!(L::slips(Slip::ReentryWaits) && own > 0), answer::HELD)
     }
 
     fn refuses_exit(&self, state: &State, v: Var) -> Result<(), u8> {

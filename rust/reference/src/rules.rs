@@ -7,7 +7,7 @@
 
 use crate::bundle::{Addr, Bundle, Class, Instr, Row, Var, INT};
 use crate::entries::{all_fit, all_may_go, ask, Entry, Outcome, Pair, Raw, Why, MAX_WEIGHT};
-use crate::slips::{Slip, Slips};
+use crate::slips::{Law, Slip};
 use crate::throws::Throw;
 
 /// Row 1: depth 0, arguments fit their variables, the others are exactly Top.
@@ -32,31 +32,31 @@ fn argument(descriptor: u8) -> Entry {
 }
 
 /// The rule of the instruction at `address`.
-pub fn check(bundle: &Bundle, class: &Class, address: Addr, slips: &Slips) -> Outcome {
+pub fn check<L: Law>(bundle: &Bundle, class: &Class, address: Addr) -> Outcome {
     let row = class.row(address);
     // Only athrow and return may stand at address k; they look at no next row.
     let next = || class.row(Addr(address.0 + 1));
     let at = |handler: Option<Addr>| handler.map(|address| class.row(address));
     match class.instruction(address) {
         Instr::Inc => inc(row, next()),
-        Instr::Pop => pop(row, next(), slips),
+        Instr::Pop => pop::<L>(row, next()),
         Instr::Push0 => push0(row, next()),
-        Instr::Load(v) => load(row, next(), v, slips),
-        Instr::Store(v) => store(row, next(), v, slips),
-        Instr::If(target) => branch(row, next(), class.row(target), slips),
+        Instr::Load(v) => load::<L>(row, next(), v),
+        Instr::Store(v) => store::<L>(row, next(), v),
+        Instr::If(target) => branch::<L>(row, next(), class.row(target)),
         Instr::Enter(v) => lock(row, next(), v, Pair::entered),
-        Instr::Exit(v) => lock(row, next(), v, |pair| exited(pair, slips)),
+        Instr::Exit(v) => lock(row, next(), v, exited::<L>),
         Instr::New(c, handler) => {
-            let failed = Throw::by_new(row, at(handler), bundle.exception(), slips);
-            new(row, next(), c, failed, slips)
+            let failed = Throw::by_new::<L>(row, at(handler), bundle.exception());
+            new::<L>(row, next(), c, failed)
         }
-        Instr::Start(c) => start(row, next(), c, bundle.class(c).arguments, slips),
+        Instr::Start(c) => start::<L>(row, next(), c, bundle.class(c).arguments),
         Instr::Athrow(handler) => {
-            let throw = Throw::by_athrow(row, at(handler), bundle.exception(), slips)?;
-            throw.asks(slips)?;
-            throw.fits(slips)
+            let throw = Throw::by_athrow::<L>(row, at(handler), bundle.exception())?;
+            throw.asks::<L>()?;
+            throw.fits::<L>()
         }
-        Instr::Return => ends(row, slips),
+        Instr::Return => ends::<L>(row),
     }
 }
 
@@ -111,9 +111,9 @@ fn inc(row: Row, next: Row) -> Outcome {
     stacks.rest_fits()
 }
 
-fn pop(row: Row, next: Row, slips: &Slips) -> Outcome {
+fn pop<L: Law>(row: Row, next: Row) -> Outcome {
     let stacks = Stacks::<1, 0>::split(row, next)?;
-    ask(stacks.taken[0].may_go(slips))?;
+    ask(stacks.taken[0].may_go::<L>())?;
     variables_fit(row, next)?;
     stacks.rest_fits()
 }
@@ -129,13 +129,13 @@ fn pushes(entry: Entry, row: Row, next: Row, stacks: Stacks<0, 1>) -> Outcome {
     stacks.rest_fits()
 }
 
-fn load(row: Row, next: Row, v: Var, slips: &Slips) -> Outcome {
+fn load<L: Law>(row: Row, next: Row, v: Var) -> Outcome {
     let stacks = Stacks::<0, 1>::split(row, next)?;
     let (kept, given) = (entry_at(next, v), stacks.given[0]);
     match entry_at(row, v) {
         // Both places are compared at once, at v.
         Entry::Ref { class, pair } => {
-            variables_fit_but(row, next, v, shares(class, pair, kept, given, slips))?;
+            variables_fit_but(row, next, v, shares::<L>(class, pair, kept, given))?;
         }
         plain => {
             variables_fit_but(row, next, v, plain.compare(kept))?;
@@ -146,25 +146,25 @@ fn load(row: Row, next: Row, v: Var, slips: &Slips) -> Outcome {
 }
 
 /// One reference becomes two: its pair is shared out between them.
-fn shares(class: u8, pair: Pair, kept: Entry, given: Entry, slips: &Slips) -> Outcome {
+fn shares<L: Law>(class: u8, pair: Pair, kept: Entry, given: Entry) -> Outcome {
     let (kept, given) = (kept.weight_after(class)?, given.weight_after(class)?);
-    let copies = |entry: Pair| slips.has(Slip::LoadCopiesPair) && pair.covers(entry).is_ok();
+    let copies = |entry: Pair| L::slips(Slip::LoadCopiesPair) && pair.covers(entry).is_ok();
     if copies(kept) && copies(given) {
         return Ok(());
     }
     pair.covers(kept.plus(given))
 }
 
-fn store(row: Row, next: Row, v: Var, slips: &Slips) -> Outcome {
+fn store<L: Law>(row: Row, next: Row, v: Var) -> Outcome {
     let stacks = Stacks::<1, 0>::split(row, next)?;
-    ask(slips.has(Slip::StoreKeepsOld) || entry_at(row, v).may_go(slips))?;
+    ask(L::slips(Slip::StoreKeepsOld) || entry_at(row, v).may_go::<L>())?;
     let stored = stacks.taken[0].compare(entry_at(next, v));
     variables_fit_but(row, next, v, stored)?;
     stacks.rest_fits()
 }
 
-fn branch(row: Row, next: Row, target: Row, slips: &Slips) -> Outcome {
-    let target = match slips.has(Slip::IfChecksFallThroughOnly) {
+fn branch<L: Law>(row: Row, next: Row, target: Row) -> Outcome {
+    let target = match L::slips(Slip::IfChecksFallThroughOnly) {
         true => next,
         false => target,
     };
@@ -190,15 +190,15 @@ fn lock(row: Row, next: Row, v: Var, moved: impl Fn(Pair) -> Pair) -> Outcome {
     stacks.rest_fits()
 }
 
-fn exited(pair: Pair, slips: &Slips) -> Pair {
+fn exited<L: Law>(pair: Pair) -> Pair {
     let exited = pair.exited();
-    match slips.has(Slip::ExitIgnoresDip) {
+    match L::slips(Slip::ExitIgnoresDip) {
         true => Pair::new(MAX_WEIGHT, exited.end),
         false => exited,
     }
 }
 
-fn start(row: Row, next: Row, class: u8, descriptors: &[u8], slips: &Slips) -> Outcome {
+fn start<L: Law>(row: Row, next: Row, class: u8, descriptors: &[u8]) -> Outcome {
     let split = row.stack.split_at_checked(descriptors.len() + 1);
     let (taken, rest) = split.ok_or(Why::Asked)?;
     // The object stands below the arguments, so its class closes the list.
@@ -206,7 +206,7 @@ fn start(row: Row, next: Row, class: u8, descriptors: &[u8], slips: &Slips) -> O
     let mut pairs = taken.iter().zip(wanted);
     ask(rest.len() == next.stack.len())?;
     ask(pairs.all(|(&raw, descriptor)| matches(Entry::read(raw), descriptor)))?;
-    ask(all_may_go(taken, slips))?;
+    ask(all_may_go::<L>(taken))?;
     variables_fit(row, next)?;
     all_fit(rest, next.stack)
 }
@@ -219,14 +219,14 @@ fn matches(entry: Entry, descriptor: u8) -> bool {
     }
 }
 
-fn new(row: Row, next: Row, class: u8, failed: Throw, slips: &Slips) -> Outcome {
+fn new<L: Law>(row: Row, next: Row, class: u8, failed: Throw) -> Outcome {
     let stacks = Stacks::split(row, next)?;
-    failed.asks(slips)?;
+    failed.asks::<L>()?;
     pushes(Entry::fresh(class), row, next, stacks)?;
-    failed.fits(slips)
+    failed.fits::<L>()
 }
 
 /// return: every entry, variables and stack, may go.
-fn ends(row: Row, slips: &Slips) -> Outcome {
-    ask(all_may_go(row.variables, slips) && all_may_go(row.stack, slips))
+fn ends<L: Law>(row: Row) -> Outcome {
+    ask(all_may_go::<L>(row.variables) && all_may_go::<L>(row.stack))
 }

@@ -3,7 +3,7 @@
 
 use crate::bundle::Row;
 use crate::entries::{all_fit, all_may_go, ask, Entry, Outcome, Raw, Why};
-use crate::slips::{Slip, Slips};
+use crate::slips::{Law, Slip};
 
 /// What is thrown, and what it leaves: the rest of the stack, the variables.
 #[derive(Clone, Copy)]
@@ -17,8 +17,8 @@ pub struct Throw<'a> {
 
 impl<'a> Throw<'a> {
     /// A failed new hands (0,0) of the exception class.
-    pub fn by_new(row: Row<'a>, handler: Option<Row<'a>>, exception: u8, slips: &Slips) -> Self {
-        let forgets = handler.is_none() && slips.has(Slip::FailedNewSkipsVariables);
+    pub fn by_new<L: Law>(row: Row<'a>, handler: Option<Row<'a>>, exception: u8) -> Self {
+        let forgets = handler.is_none() && L::slips(Slip::FailedNewSkipsVariables);
         Throw {
             thrown: Entry::fresh(exception),
             rest: row.stack,
@@ -28,15 +28,14 @@ impl<'a> Throw<'a> {
     }
 
     /// athrow takes the top, a reference of the exception class.
-    pub fn by_athrow(
+    pub fn by_athrow<L: Law>(
         row: Row<'a>,
         handler: Option<Row<'a>>,
         exception: u8,
-        slips: &Slips,
     ) -> Result<Self, Why> {
         let (&top, rest) = row.stack.split_first().ok_or(Why::Asked)?;
         let thrown = Entry::read(top);
-        let slipped = slips.has(Slip::AthrowOfAnyClass) && matches!(thrown, Entry::Ref { .. });
+        let slipped = L::slips(Slip::AthrowOfAnyClass) && matches!(thrown, Entry::Ref { .. });
         ask(thrown.is_of(exception) || slipped)?;
         let throw = Throw {
             thrown,
@@ -44,22 +43,22 @@ impl<'a> Throw<'a> {
             variables: row.variables,
             handler,
         };
-        Ok(throw.forgetting(slips))
+        Ok(throw.forgetting::<L>())
     }
 
     /// Without what a slip of athrow doesn't look at.
-    fn forgetting(mut self, slips: &Slips) -> Self {
+    fn forgetting<L: Law>(mut self) -> Self {
         let (keeps_rest, uncaught) = match self.handler {
             Some(_) => (Slip::CaughtKeepsRest, false),
             None => (Slip::UncaughtKeepsRest, true),
         };
-        if slips.has(keeps_rest) {
+        if L::slips(keeps_rest) {
             self.rest = &[];
         }
-        if uncaught && slips.has(Slip::UncaughtKeepsVariables) {
+        if uncaught && L::slips(Slip::UncaughtKeepsVariables) {
             self.variables = &[];
         }
-        if uncaught && slips.has(Slip::UncaughtKeepsTop) {
+        if uncaught && L::slips(Slip::UncaughtKeepsTop) {
             self.thrown = Entry::Top;
         }
         self
@@ -67,22 +66,22 @@ impl<'a> Throw<'a> {
 
     /// With a handler, its row has depth 1 and the rest may go; with none,
     /// all must.
-    pub fn asks(&self, slips: &Slips) -> Outcome {
-        ask(all_may_go(self.rest, slips))?;
+    pub fn asks<L: Law>(&self) -> Outcome {
+        ask(all_may_go::<L>(self.rest))?;
         match self.handler {
-            Some(at) => ask(handler_depth(at.stack.len(), slips)),
-            None => ask(self.thrown.may_go(slips) && all_may_go(self.variables, slips)),
+            Some(at) => ask(handler_depth::<L>(at.stack.len())),
+            None => ask(self.thrown.may_go::<L>() && all_may_go::<L>(self.variables)),
         }
     }
 
     /// The variables fit the handler's, and what is thrown its only entry.
-    pub fn fits(&self, slips: &Slips) -> Outcome {
+    pub fn fits<L: Law>(&self) -> Outcome {
         let Some(at) = self.handler else {
             return Ok(());
         };
         all_fit(self.variables, at.variables)?;
         match at.stack.first() {
-            Some(&raw) if !slips.has(Slip::HandlerEntryUnchecked) => {
+            Some(&raw) if !L::slips(Slip::HandlerEntryUnchecked) => {
                 self.thrown.compare(Entry::read(raw))
             }
             _ => Ok(()),
@@ -90,10 +89,10 @@ impl<'a> Throw<'a> {
     }
 }
 
-fn handler_depth(depth: usize, slips: &Slips) -> bool {
+fn handler_depth<L: Law>(depth: usize) -> bool {
     match depth {
-        0 => slips.has(Slip::HandlerMayBeEmpty),
+        0 => L::slips(Slip::HandlerMayBeEmpty),
         1 => true,
-        _ => slips.has(Slip::HandlerMayBeDeeper),
+        _ => L::slips(Slip::HandlerMayBeDeeper),
     }
 }

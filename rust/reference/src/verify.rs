@@ -3,22 +3,26 @@
 use crate::bundle::{Addr, Bundle, Class};
 use crate::entries::{well_formed, UNUSED};
 use crate::rules;
-use crate::slips::Slips;
+use crate::slips::{AsWritten, Law};
 
 pub use crate::bundle::Verdict;
 
 /// Judges a bundle. Verdict 0 names the class count and address 0.
-pub fn verify(b: &[u8], slips: &Slips) -> Verdict {
-    match judge(b, slips) {
+pub fn verify(b: &[u8]) -> Verdict {
+    verify_by::<AsWritten>(b)
+}
+
+pub(crate) fn verify_by<L: Law>(b: &[u8]) -> Verdict {
+    match judge::<L>(b) {
         Ok(count) => Verdict::new(0, count, 0),
         Err(verdict) => verdict,
     }
 }
 
-fn judge(b: &[u8], slips: &Slips) -> Result<u8, Verdict> {
+fn judge<L: Law>(b: &[u8]) -> Result<u8, Verdict> {
     let bundle = Bundle::open_with_code(b)?;
     check_rows(&bundle)?;
-    check_rules(&bundle, slips)?;
+    check_rules::<L>(&bundle)?;
     Ok(bundle.count())
 }
 
@@ -45,13 +49,13 @@ fn row_well_formed(class: &Class, address: Addr, classes: u8) -> bool {
 }
 
 /// Class by class, verdict 10 and then verdict 9.
-fn check_rules(bundle: &Bundle, slips: &Slips) -> Result<(), Verdict> {
+fn check_rules<L: Law>(bundle: &Bundle) -> Result<(), Verdict> {
     for (number, class) in bundle.classes() {
         if !rules::first_row_holds(class) {
             return Err(Verdict::new(10, number, 0));
         }
         for address in 1..=class.code_length() {
-            rules::check(bundle, class, Addr(address), slips)
+            rules::check::<L>(bundle, class, Addr(address))
                 .map_err(|why| Verdict::new(9, number, address).because(why as u8))?;
         }
     }

@@ -8,7 +8,7 @@ use reference::bundle::{find_record, Addr, Bundle, Instr, Var, Verdict};
 use reference::entries::Entry;
 use reference::machine::{fresh, step, State, Value};
 use reference::rules;
-use reference::slips::Slips;
+use reference::slips::AsWritten;
 
 const HELD: Entry = Entry::reference(0, 1, -1);
 const FREE: Entry = Entry::fresh(0);
@@ -34,7 +34,7 @@ fn rule_holds(instr: Instr, row: Row, next: Row) -> bool {
     };
     let bytes = lay_out(&[method]);
     let bundle = Bundle::open_with_code(&bytes).expect("the table is kept");
-    rules::check(&bundle, bundle.class(0), Addr(1), &Slips::NONE).is_ok()
+    rules::check::<AsWritten>(&bundle, bundle.class(0), Addr(1)).is_ok()
 }
 
 #[test]
@@ -253,12 +253,16 @@ fn records_may_share_bytes() {
 #[test]
 fn the_order_of_answers() {
     let bytes = case(8, FREE);
-    let (_, state) = fresh(&bytes);
-    assert_eq!(step(&bytes, &state, 8, false, &Slips::NONE).0, 5);
-    assert_eq!(step(&bytes, &state, 1, false, &Slips::NONE).0, 5);
+    let (_, mut state) = fresh(&bytes);
+    for thread in [1, 7, 8, 9, 16, 128, 255] {
+        assert_eq!(step(&bytes, &mut state, thread, false), 5);
+    }
+    assert_eq!(state, fresh(&bytes).1);
     let mut bad = state.clone();
     bad.threads[0].address = 10;
-    assert_eq!(step(&bytes, &bad, 9, false, &Slips::NONE), (18, bad));
+    for thread in [0, 9, 255] {
+        assert_eq!(step(&bytes, &mut bad, thread, false), 18);
+    }
     // A failed new needs no room.
     let mut full = state.clone();
     full.threads[0].depth = 1;

@@ -9,7 +9,6 @@ use generator::builder::{Draft, Method, Row};
 use reference::bundle::{find_record, Addr, Instr, Var, Verdict};
 use reference::entries::Entry;
 use reference::machine::{fresh, step, State, Value};
-use reference::slips::Slips;
 
 const INTEGER: Entry = Entry::Int;
 const TOP: Entry = Entry::Top;
@@ -342,7 +341,7 @@ fn a_state_has_object_0_of_the_exception_class() {
     another.classes[0] = 0;
     assert_eq!(run(&bytes, &another, false), (18, another.clone()));
     // It comes before 5.
-    assert_eq!(step(&bytes, &another, 8, false, &Slips::NONE).0, 18);
+    assert_eq!(step(&bytes, &mut another, 8, false), 18);
     assert_eq!(run(&bytes, &State::EMPTY, false), (18, State::EMPTY));
 }
 

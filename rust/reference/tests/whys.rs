@@ -3,7 +3,6 @@
 use generator::builder::{lay_out, Method, Row};
 use reference::bundle::{Addr, Instr, Var, Verdict, INT};
 use reference::entries::Entry;
-use reference::slips::Slips;
 use reference::verify::verify;
 
 const INTEGER: Entry = Entry::Int;
@@ -51,7 +50,7 @@ fn bundle(instr: Instr, rows: [Row; 3]) -> Vec<u8> {
 
 /// Why the rule fails, if it does.
 fn why_to(instr: Instr, own: Row, next: Row, other: Row) -> Option<u8> {
-    let verdict = verify(&bundle(instr, [own, next, other]), &Slips::NONE);
+    let verdict = verify(&bundle(instr, [own, next, other]));
     let found = (verdict.number, verdict.class, verdict.address) == (9, 0, 2);
     found.then_some(verdict.why)
 }
@@ -354,21 +353,18 @@ fn new_compares_its_object_at_the_new_top() {
 fn only_verdict_9_has_a_reason() {
     let rows = [row(&[TOP], &[]), row(&[TOP], &[]), row(&[TOP], &[])];
     let good = bundle(Instr::Push0, rows.clone());
-    assert_eq!(
-        verify(&good, &Slips::NONE),
-        Verdict::new(9, 0, 2).because(0)
-    );
+    assert_eq!(verify(&good), Verdict::new(9, 0, 2).because(0));
     let method = Method {
         variables: 1,
         code: vec![Instr::Return],
         rows: vec![row(&[zero(0, 0)], &[])],
         ..Method::default()
     };
-    let verdict = verify(&lay_out(&[method]), &Slips::NONE);
+    let verdict = verify(&lay_out(&[method]));
     assert_eq!(verdict, Verdict::new(10, 0, 0));
     assert_eq!(verdict.to_string(), "refused 10 class 0 address 0");
     let mut broken = good.clone();
     broken[0] = 13;
-    assert_eq!(verify(&broken, &Slips::NONE), Verdict::new(7, 0, 1));
-    assert_eq!(verify(&good[1..], &Slips::NONE), Verdict::new(2, 0, 0));
+    assert_eq!(verify(&broken), Verdict::new(7, 0, 1));
+    assert_eq!(verify(&good[1..]), Verdict::new(2, 0, 0));
 }

@@ -1,8 +1,8 @@
 //! The input and output as bytes and text.
 
 use crate::Turn;
-use reference::machine::{fresh, step, State, Thread, Value, OBJECTS, PLACES, THREADS};
-use reference::slips::Slips;
+use reference::machine::{fresh, step};
+use reference::state::{State, Thread, Value, OBJECTS, PLACES, THREADS};
 use std::fmt::Write;
 
 pub const STATE_BYTES: usize = 1_865;
@@ -142,15 +142,15 @@ fn take<const N: usize>(rest: &mut &[u8]) -> Option<[u8; N]> {
 }
 
 /// The whole output that the trace program should print for this input.
-pub fn run(input: &[u8], slips: &Slips) -> String {
+pub fn run(input: &[u8]) -> String {
     match decode_input(input) {
-        Some(input) => encode_output(&follow(&input, slips)),
+        Some(input) => encode_output(&follow(&input)),
         None => BAD_INPUT.to_string(),
     }
 }
 
 /// Runs the schedule from the fresh or the given state.
-pub fn follow(input: &Input, slips: &Slips) -> Output {
+pub fn follow(input: &Input) -> Output {
     let (fresh, mut state) = match &input.start {
         Some(state) => (None, state.clone()),
         None => {
@@ -161,13 +161,12 @@ pub fn follow(input: &Input, slips: &Slips) -> Output {
     let mut steps = Vec::with_capacity(input.schedule.len());
     for &byte in input.schedule {
         let (thread, fails) = (Turn(byte).thread(), Turn(byte).fails());
-        let (answer, next) = step(input.bundle, &state, thread, fails, slips);
+        let answer = step(input.bundle, &mut state, thread, fails);
         steps.push(Step {
             thread,
             answer,
             fails,
         });
-        state = next;
     }
     Output {
         fresh,

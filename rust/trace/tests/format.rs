@@ -5,7 +5,6 @@ use generator::families;
 use generator::rng::Rng;
 use generator::schedule::{any_state, schedule};
 use reference::machine::{fresh, State, Value};
-use reference::slips::Slips;
 use trace::{
     decode_input, decode_output, decode_state, encode_input, encode_output, encode_state, follow,
     run, Input, BAD_INPUT, MAX_STEPS, STATE_BYTES,
@@ -14,7 +13,7 @@ use trace::{
 #[test]
 fn case_a_prints_as_told() {
     let b = lay_out(&[case_a()]);
-    let text = run(&encode_input(&b, None, &[0x00, 0xF1, 0x89]), &Slips::NONE);
+    let text = run(&encode_input(&b, None, &[0x00, 0xF1, 0x89]));
     let lines: Vec<&str> = text.lines().collect();
     assert_eq!(lines[0], "fresh 0");
     assert_eq!(lines[1], "step 1 thread 0 answer 0");
@@ -61,7 +60,7 @@ fn inputs_and_outputs_come_back() {
             schedule: &turns,
         };
         assert_eq!(decode_input(&bytes), Some(input.clone()));
-        let output = follow(&input, &Slips::NONE);
+        let output = follow(&input);
         assert_eq!(decode_output(&encode_output(&output)), Some(output));
     }
 }
@@ -70,7 +69,7 @@ fn inputs_and_outputs_come_back() {
 fn bad_inputs() {
     let b = lay_out(&[case_a()]);
     let good = encode_input(&b, Some(&State::EMPTY), &[0]);
-    let judge = |input: &[u8]| run(input, &Slips::NONE) == BAD_INPUT;
+    let judge = |input: &[u8]| run(input) == BAD_INPUT;
     assert!(!judge(&good));
     assert!(judge(&[]) && judge(&good[..50]) && judge(&good[..b.len() + 2]));
     assert!(judge(&good[..good.len() - 2]));

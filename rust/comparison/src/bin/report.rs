@@ -5,12 +5,11 @@
 //! `report [bundles] [first seed]`
 
 use comparison::whys::Whys;
-use generator::families::{self, flow};
+use generator::families;
 use generator::rng::Rng;
 use generator::schedule::{any_state, Scheduler};
 use reference::bundle::Bundle;
 use reference::machine::{fresh, step, step_in, State};
-use reference::slips::Slips;
 use reference::verify::verify;
 
 /// No count passes this in an accepted bundle: 32 places of 63 each.
@@ -21,7 +20,6 @@ const STEPS: usize = 250;
 struct Figures {
     verdicts: [u64; 11],
     whys: Whys,
-    branching: u64,
     answers: [u64; 6],
     /// Answers from random states of any bundle.
     answers_anywhere: [u64; 19],
@@ -46,7 +44,7 @@ fn main() {
 impl Figures {
     fn add(&mut self, seed: u64) {
         let (_, b) = families::bundle(seed);
-        let verdict = verify(&b, &Slips::NONE);
+        let verdict = verify(&b);
         self.bytes += b.len();
         self.verdicts[usize::from(verdict.number)] += 1;
         self.whys.add(&b, verdict);
@@ -62,7 +60,8 @@ impl Figures {
         let state = any_state(&mut rng, b);
         for thread in 0..9 {
             let fails = rng.chance(1, 4);
-            let (answer, next) = step(b, &state, thread, fails, &Slips::NONE);
+            let mut next = state.clone();
+            let answer = step(b, &mut next, thread, fails);
             assert!(
                 answer <= 2 || next == state,
                 "seed {seed}: {answer} changes the state"
@@ -72,20 +71,17 @@ impl Figures {
     }
 
     fn run_accepted(&mut self, b: &[u8], seed: u64) {
-        self.branching += u64::from(flow::branches_under_lock(b));
         let bundle = Bundle::open_with_code(b).expect("it is accepted");
         let mut scheduler = Scheduler::new(seed);
         let (_, mut state) = fresh(b);
         for _ in 0..STEPS {
             let turn = scheduler.turn(&state);
-            let (answer, next) =
-                step_in(&bundle, &state, turn.thread(), turn.fails(), &Slips::NONE);
+            let answer = step_in(&bundle, &mut state, turn.thread(), turn.fails());
             assert!(
                 answer <= 5,
                 "seed {seed}: an accepted bundle answers {answer}"
             );
             self.answers[usize::from(answer)] += 1;
-            state = next;
             self.check(&state, seed);
             if state.threads.iter().all(|thread| !thread.live) {
                 self.ended += 1;
@@ -120,10 +116,6 @@ impl Figures {
         self.whys.print();
         let accepted = self.verdicts[0];
         println!("accepted: {accepted}");
-        println!(
-            "accepted with a branch between lock and release: {}",
-            self.branching
-        );
         println!("answers 0..5 on accepted bundles: {:?}", self.answers);
         println!(
             "answers 0..18 from random states: {:?}",

@@ -10,7 +10,7 @@ use generator::rng::Rng;
 use generator::schedule::Scheduler;
 use reference::bundle::Bundle;
 use reference::machine::{answer, fresh, step_in};
-use reference::slips::{Slip, Slips};
+use reference::slips::Slip;
 use reference::verify::verify;
 use std::process::ExitCode;
 
@@ -35,8 +35,8 @@ fn main() -> ExitCode {
 
 fn caught(slip: Slip, seed: u64) -> Option<String> {
     let b = typed::tempting(&mut Rng::new(seed), slip);
-    let truth = verify(&b, &Slips::NONE);
-    if truth.number == 0 || verify(&b, &slip.alone()).number != 0 {
+    let truth = verify(&b);
+    if truth.number == 0 || slip.verify(&b).number != 0 {
         return None;
     }
     let (schedule, (step, fault)) = (0..SCHEDULES)
@@ -54,8 +54,7 @@ fn fault(b: &[u8], seed: u64) -> Option<(usize, u8)> {
     let mut state = fresh(b).1;
     (1..=STEPS).find_map(|number| {
         let turn = scheduler.turn(&state);
-        let (given, next) = step_in(&bundle, &state, turn.thread(), turn.fails(), &Slips::NONE);
-        state = next;
+        let given = step_in(&bundle, &mut state, turn.thread(), turn.fails());
         (answer::STACK_SHORT..=answer::COUNT_FULL)
             .contains(&given)
             .then_some((number, given))
@@ -64,7 +63,7 @@ fn fault(b: &[u8], seed: u64) -> Option<(usize, u8)> {
 
 fn differs(slip: Slip, seed: u64) -> Option<String> {
     let b = typed::well_typed(&mut Rng::new(seed));
-    if verify(&b, &Slips::NONE).number != 0 {
+    if verify(&b).number != 0 {
         return None;
     }
     let (schedule, (step, slipped, truth)) =
@@ -85,9 +84,8 @@ fn difference(b: &[u8], slip: Slip, seed: u64) -> Option<(usize, u8, u8)> {
         .find_map(|number| {
             let turn = scheduler.turn(&state);
             let (thread, fails) = (turn.thread(), turn.fails());
-            let (truth, next) = step_in(&bundle, &state, thread, fails, &Slips::NONE);
-            let (other, slipped_next) = step_in(&bundle, &slipped, thread, fails, &slip.alone());
-            (state, slipped) = (next, slipped_next);
+            let truth = step_in(&bundle, &mut state, thread, fails);
+            let other = slip.step(&bundle, &mut slipped, thread, fails);
             (truth != other).then_some((number, other, truth))
         })
         .filter(|&(_, other, _)| other != answer::BAD_STATE)

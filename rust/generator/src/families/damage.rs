@@ -1,53 +1,11 @@
 //! Takes a good bundle in its plain layout and breaks one thing in it.
 
+use super::anatomy::{classes, records, Record};
 use super::random;
 use crate::rng::Rng;
 use reference::bundle::{DIRECTORY_ENTRY, TRAILER};
-
-/// Where the parts of one class's record lie.
-struct Record {
-    entry: usize,
-    offset: usize,
-    arguments: usize,
-    variables: usize,
-    stack: usize,
-    code: usize,
-}
-
-impl Record {
-    /// Reads a directory entry of a good bundle.
-    fn read(b: &[u8], entry: usize) -> Record {
-        let two = |at: usize| usize::from(b[at]) * 256 + usize::from(b[at + 1]);
-        Record {
-            entry,
-            offset: two(entry),
-            arguments: usize::from(b[entry + 2]),
-            variables: usize::from(b[entry + 3]),
-            stack: usize::from(b[entry + 4]),
-            code: two(entry + 6),
-        }
-    }
-
-    fn instruction(&self, index: usize) -> usize {
-        self.offset + self.arguments + 4 * index
-    }
-
-    fn row(&self, index: usize) -> usize {
-        let length = 4 * self.variables + 1 + 4 * self.stack;
-        self.instruction(self.code) + index * length
-    }
-}
-
-fn count(b: &[u8]) -> usize {
-    usize::from(b[b.len() - TRAILER + 2])
-}
-
-fn records(b: &[u8]) -> Vec<Record> {
-    let at = b.len() - TRAILER - DIRECTORY_ENTRY * count(b);
-    (0..count(b))
-        .map(|class| Record::read(b, at + DIRECTORY_ENTRY * class))
-        .collect()
-}
+use reference::entries::kind;
+use reference::instructions::names_address;
 
 /// Breaks one thing, perhaps harmlessly.
 pub fn damage(rng: &mut Rng, mut b: Vec<u8>) -> Vec<u8> {
@@ -87,7 +45,7 @@ fn trailer(rng: &mut Rng, b: &mut [u8]) {
 /// Another exception class, or one that the bundle hasn't.
 fn exception(rng: &mut Rng, b: &mut [u8]) {
     let at = b.len() - TRAILER + 3;
-    b[at] = rng.below(count(b) + 1) as u8;
+    b[at] = rng.below(classes(b) + 1) as u8;
 }
 
 /// A byte cut or added at the end, or all but a few cut.
@@ -106,7 +64,7 @@ fn directory(rng: &mut Rng, b: &mut [u8], record: &Record) {
 
 /// A record said to end at length - 8, just past it, or anywhere.
 fn move_record(rng: &mut Rng, b: &mut [u8], record: &Record) {
-    let length = record.row(record.code) - record.offset;
+    let length = record.end() - record.offset;
     let last = b.len() - TRAILER - length;
     let any = rng.below(b.len());
     let offset = rng.pick(&[last, last + 1, last + 1, b.len(), any]) as u16;
@@ -139,8 +97,7 @@ fn raw_instruction(rng: &mut Rng, b: &mut [u8], record: &Record) {
 /// Another instruction that keeps to the table.
 fn other_instruction(rng: &mut Rng, b: &mut [u8], record: &Record) {
     let index = rng.below(record.code);
-    let classes = count(b);
-    let instr = random::instruction(rng, record.variables, classes, index + 1, record.code);
+    let instr = random::instruction(rng, record.variables, classes(b), index + 1, record.code);
     let at = record.instruction(index);
     b[at..at + 4].copy_from_slice(&instr.bytes());
 }
@@ -149,7 +106,7 @@ fn other_instruction(rng: &mut Rng, b: &mut [u8], record: &Record) {
 fn jump(rng: &mut Rng, b: &mut [u8], record: &Record) {
     let jumps: Vec<usize> = (0..record.code)
         .map(|index| record.instruction(index))
-        .filter(|&at| matches!(b[at], 6 | 9 | 11))
+        .filter(|&at| names_address(b[at]))
         .collect();
     if !jumps.is_empty() {
         let at = rng.pick(&jumps);
@@ -166,25 +123,14 @@ fn swap(rng: &mut Rng, b: &mut [u8], record: &Record) {
 }
 
 fn depth(rng: &mut Rng, b: &mut [u8], record: &Record) {
-    let at = record.row(rng.below(record.code)) + 4 * record.variables;
+    let at = record.depth(rng.below(record.code));
     b[at] = step_or_any(rng, b[at]);
-}
-
-/// Where some entry of a row stands, if the record has any.
-fn entry_at(rng: &mut Rng, record: &Record, row: usize) -> Option<usize> {
-    let entries = record.variables + record.stack;
-    if entries == 0 {
-        return None;
-    }
-    let index = rng.below(entries);
-    let past_depth = usize::from(index >= record.variables);
-    Some(record.row(row) + 4 * index + past_depth)
 }
 
 /// One byte of one entry.
 fn raw_entry(rng: &mut Rng, b: &mut [u8], record: &Record) {
     let row = rng.below(record.code);
-    if let Some(at) = entry_at(rng, record, row) {
+    if let Some(at) = record.some_entry(rng, row) {
         let byte = at + rng.below(4);
         b[byte] = step_or_any(rng, b[byte]);
     }
@@ -194,7 +140,7 @@ fn raw_entry(rng: &mut Rng, b: &mut [u8], record: &Record) {
 fn first_row(rng: &mut Rng, b: &mut [u8], record: &Record) {
     if record.variables > 0 {
         let at = record.row(0) + 4 * rng.below(record.variables);
-        let entry = random::entry(rng, count(b));
+        let entry = random::entry(rng, classes(b));
         b[at..at + 4].copy_from_slice(&entry.bytes());
     }
 }
@@ -203,10 +149,10 @@ fn first_row(rng: &mut Rng, b: &mut [u8], record: &Record) {
 fn nudge(rng: &mut Rng, b: &mut [u8], record: &Record) {
     for _ in 0..20 {
         let row = rng.below(record.code);
-        let Some(at) = entry_at(rng, record, row) else {
+        let Some(at) = record.some_entry(rng, row) else {
             return;
         };
-        if b[at] == 3 {
+        if b[at] == kind::REFERENCE {
             let byte = at + 2 + rng.below(2);
             b[byte] = if rng.chance(1, 2) {
                 b[byte] + 1
@@ -221,8 +167,8 @@ fn nudge(rng: &mut Rng, b: &mut [u8], record: &Record) {
 /// Another well-formed entry in the place of one in use.
 fn other_entry(rng: &mut Rng, b: &mut [u8], record: &Record) {
     let row = rng.below(record.code);
-    if let Some(at) = entry_at(rng, record, row).filter(|&at| b[at] != 0) {
-        let entry = random::entry(rng, count(b));
+    if let Some(at) = record.some_entry(rng, row).filter(|&at| b[at] != 0) {
+        let entry = random::entry(rng, classes(b));
         b[at..at + 4].copy_from_slice(&entry.bytes());
     }
 }

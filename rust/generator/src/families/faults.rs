@@ -43,14 +43,8 @@ pub fn break_rule(rng: &mut Rng, method: &mut Method, index: usize, classes: usi
 
 /// The rows that the instruction's rule compares its own with.
 fn successors(instr: Instr, index: usize) -> Vec<usize> {
-    let jump = match instr {
-        Instr::If(address) => Some(address),
-        Instr::New(_, handler) | Instr::Athrow(handler) => handler,
-        _ => None,
-    };
-    let falls = !matches!(instr, Instr::Athrow(_) | Instr::Return);
-    let next = falls.then_some(index + 1);
-    let jump = jump.map(|address| usize::from(address.0) - 1);
+    let next = instr.goes_on().then_some(index + 1);
+    let jump = instr.jump().map(|address| usize::from(address.0) - 1);
     next.into_iter().chain(jump).collect()
 }
 

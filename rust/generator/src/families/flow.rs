@@ -1,23 +1,16 @@
 //! What flows where in a method: used to count how hard the inputs are.
 
-use reference::bundle::{Addr, Bundle, Class, Instr, Row};
+use reference::bundle::{Addr, Class, Instr, Row};
 use reference::entries::Entry;
 
 /// Addresses of one method, by their index.
 type Reach = [bool; 257];
 
-/// Whether some method of a well-formed bundle branches on a way that leads
+/// Whether a method whose rows are well formed branches on a way that leads
 /// from its start over a monitorenter to a monitorexit, while a reference in
 /// the row still owes a lock that it may give back.
-pub fn branches_under_lock(b: &[u8]) -> bool {
-    Bundle::open_with_code(b)
-        .is_ok_and(|bundle| bundle.classes().any(|(_, class)| method_does(class)))
-}
-
-fn method_does(class: &Class) -> bool {
-    let code: Vec<Instr> = (1..=class.code_length())
-        .map(|a| class.instruction(Addr(a)))
-        .collect();
+pub fn branches_under_lock(class: &Class) -> bool {
+    let code = code_of(class);
     let at = |address: usize| code[address - 1];
     let from_start = reach(&code, &[1]);
     let enters = filtered(&from_start, |a| matches!(at(a), Instr::Enter(_)));
@@ -30,6 +23,21 @@ fn method_does(class: &Class) -> bool {
         let beyond = reach(&code, &[a]);
         !filtered(&beyond, |x| matches!(at(x), Instr::Exit(_))).is_empty()
     })
+}
+
+/// The addresses that a thread may come to, if its values allow.
+pub fn reached(class: &Class) -> Vec<Addr> {
+    let reached = reach(&code_of(class), &[1]);
+    filtered(&reached, |_| true)
+        .into_iter()
+        .map(|address| Addr(address as u16))
+        .collect()
+}
+
+fn code_of(class: &Class) -> Vec<Instr> {
+    (1..=class.code_length())
+        .map(|address| class.instruction(Addr(address)))
+        .collect()
 }
 
 /// An if whose two ways differ.
@@ -60,13 +68,7 @@ fn reach(code: &[Instr], from: &[usize]) -> Reach {
 }
 
 fn successors(instr: Instr, address: usize) -> impl Iterator<Item = usize> {
-    let jump = |target: Addr| Some(usize::from(target.0));
-    let (next, other) = match instr {
-        Instr::If(target) => (Some(address + 1), jump(target)),
-        Instr::New(_, handler) => (Some(address + 1), handler.and_then(jump)),
-        Instr::Athrow(handler) => (None, handler.and_then(jump)),
-        Instr::Return => (None, None),
-        _ => (Some(address + 1), None),
-    };
+    let next = instr.goes_on().then_some(address + 1);
+    let other = instr.jump().map(|target| usize::from(target.0));
     next.into_iter().chain(other)
 }

@@ -2,9 +2,9 @@
 //! thread, so that nothing flows into row 2 and it may say anything.
 
 use super::faults;
+use super::interface::Interface;
 use super::random;
-use super::typed;
-use super::writer::{free, Interface, Label, Shape, Writer};
+use super::writer::{free, Label, Shape, Writer};
 use crate::builder::{Draft, Method};
 use crate::rng::Rng;
 use reference::bundle::{Instr, INT};
@@ -15,7 +15,7 @@ const PROBED: usize = 1;
 
 /// A bundle whose rule at address 2 of some class mostly fails.
 pub fn probe(rng: &mut Rng) -> Vec<u8> {
-    let interface = typed::interface(rng);
+    let interface = Interface::any(rng);
     let Interface {
         signatures,
         exception,
@@ -46,9 +46,9 @@ fn idle(arguments: &[u8]) -> Method {
 
 fn method(rng: &mut Rng, interface: &Interface, class: usize) -> Method {
     let arguments = &interface.signatures[class];
-    let variables = arguments.len() + rng.between(1, 4);
-    // start takes up to four entries, and some should lie below them.
-    let stack_limit = rng.between(5, 7);
+    let variables = (arguments.len() + rng.between(1, 4)).min(16);
+    // start takes as many entries and one more, and some should lie below them.
+    let stack_limit = (interface.widest() + rng.between(2, 4)).min(16);
     let opcode = rng.between(1, Instr::NAMES.len());
     let first = random::first_row(arguments, variables).variables;
     let mut writer = Writer::new(rng, interface, first, stack_limit, 0);
@@ -66,7 +66,7 @@ fn method(rng: &mut Rng, interface: &Interface, class: usize) -> Method {
 
 impl Writer<'_> {
     /// Entries of all kinds, with room on the stack for one more.
-    fn scattered(&mut self, variables: usize) -> Shape {
+    pub(super) fn scattered(&mut self, variables: usize) -> Shape {
         let depth = self.rng.below(self.stack_limit);
         let mut some = |count: usize| (0..count).map(|_| self.any_entry()).collect();
         Shape {
@@ -198,8 +198,12 @@ impl Writer<'_> {
     }
 
     fn probed_start(&mut self) {
-        let class = self.pick_class();
-        let arguments = &self.interface.signatures[usize::from(class)];
+        let mut class = self.pick_class();
+        let mut arguments = &self.interface.signatures[usize::from(class)];
+        // No stack has room for the most arguments and an object below them.
+        if arguments.len() == self.stack_limit {
+            (class, arguments) = (0, &self.interface.signatures[0]);
+        }
         let below = self.stack_limit - arguments.len() - 1;
         self.now.stack.truncate(below);
         // The object lies lowest, argument 0 on top.
@@ -215,7 +219,7 @@ impl Writer<'_> {
 }
 
 /// The same entry, owing nothing.
-fn freed(entry: Entry) -> Entry {
+pub(super) fn freed(entry: Entry) -> Entry {
     match entry {
         Entry::Ref { class, pair } if !free(entry) => Entry::reference(class, pair.dip, -pair.end),
         other => other,

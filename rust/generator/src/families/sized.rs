@@ -4,17 +4,12 @@ use super::typed;
 use crate::builder::{lay_out, Method, Row};
 use crate::rng::Rng;
 use reference::bundle::{Addr, Instr, Var, DIRECTORY_ENTRY, TRAILER};
-use reference::entries::{Entry, END_BIAS};
-use reference::slips::Slips;
+use reference::entries::{kind, Entry, END_BIAS};
 use reference::verify::{verify, Verdict};
 
 const MAX_CODE: usize = 256;
 /// What one instruction of a striped method takes, with its row of V 4, K 3.
 const STRIPE_INSTRUCTION: usize = 4 + 4 * 4 + 1 + 4 * 3;
-
-fn verdict(bundle: &[u8]) -> Verdict {
-    verify(bundle, &Slips::NONE)
-}
 
 /// Accepted bundles of several classes and about `bytes`, by trial.
 pub fn typical(bytes: usize, wanted: usize) -> Vec<Vec<u8>> {
@@ -22,7 +17,7 @@ pub fn typical(bytes: usize, wanted: usize) -> Vec<Vec<u8>> {
         .map(|seed| typed::well_typed(&mut Rng::new(seed)))
         .filter(|b| b.len().abs_diff(bytes) < bytes / 10)
         .filter(|b| {
-            let verdict = verdict(b);
+            let verdict = verify(b);
             verdict.number == 0 && verdict.class >= 3 && refused_late(b).is_some()
         })
         .take(wanted)
@@ -54,13 +49,13 @@ pub fn refused_late(bundle: &[u8]) -> Option<Vec<u8>> {
     let last = Verdict::new(9, count - 1, code);
     (end.saturating_sub(140)..end - 4)
         .rev()
-        .filter(|&at| bundle[at] == 3)
+        .filter(|&at| bundle[at] == kind::REFERENCE)
         .map(|at| {
             let mut owing = bundle.to_vec();
             owing[at + 3] = (END_BIAS - 1) as u8;
             owing
         })
-        .find(|owing| verdict(owing).because(0) == last)
+        .find(|owing| verify(owing).because(0) == last)
 }
 
 /// The same bundle with an unknown opcode at class 0, address 1 (7).
@@ -147,12 +142,19 @@ fn striped_method(length: usize) -> Method {
     stripe.end(Instr::Return, &[])
 }
 
-/// A method that never ends: it throws its object to a handler before the
-/// block, again and again.
-fn endless_method() -> Method {
+/// The class of the threads that an endless main thread starts.
+const STARTED: u8 = 1;
+
+/// A method that never ends: it starts so many threads, and then throws its
+/// object to a handler before the block, again and again.
+fn endless_method(starts: usize) -> Method {
     let (free, at_rest) = (Entry::fresh(0), [Entry::fresh(0), Entry::Int]);
     let mut stripe = Stripe::default();
     stripe.begin();
+    for _ in 0..starts {
+        stripe.add(Instr::New(STARTED, None), at_rest, &[]);
+        stripe.add(Instr::Start(STARTED), at_rest, &[Entry::fresh(STARTED)]);
+    }
     stripe.add(Instr::Load(Var(0)), at_rest, &[]);
     let handler = Addr(stripe.code.len() as u16 + 1);
     stripe.add(Instr::Pop, at_rest, &[free]);
@@ -161,10 +163,19 @@ fn endless_method() -> Method {
     stripe.end(Instr::Athrow(Some(handler)), &[free])
 }
 
-/// A main thread that never ends, beside the methods of as many further
+/// So many threads that never end, beside the methods of `others` further
 /// classes.
-pub fn endless(others: usize) -> Vec<u8> {
-    let mut methods = vec![endless_method()];
+pub fn endless(threads: usize, others: usize) -> Vec<u8> {
+    let mut methods = vec![endless_method(threads - 1), endless_method(0)];
     methods.extend(vec![striped_method(250); others]);
     lay_out(&methods)
+}
+
+/// A schedule for them: all are started, and then take their steps in turn.
+pub fn turns(threads: usize, steps: usize) -> Vec<u8> {
+    // What main does before it has started all of them.
+    let alone = 4 + 2 * (threads - 1);
+    (0..steps)
+        .map(|step| (step.saturating_sub(alone) % threads) as u8)
+        .collect()
 }

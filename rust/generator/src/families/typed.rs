@@ -1,8 +1,8 @@
 //! Well-typed methods: nested lock regions, branches, loops, throws, handlers,
 //! aliases and started threads, each with the rows that make it hold.
 
-use super::random;
-use super::writer::{free, Interface, Writer};
+use super::interface::{claimed, size, Interface};
+use super::writer::{free, Writer};
 use crate::builder::{Draft, Method};
 use crate::rng::Rng;
 use reference::bundle::{INT, MAX_LENGTH};
@@ -21,8 +21,13 @@ pub fn tempting(rng: &mut Rng, slip: Slip) -> Vec<u8> {
 
 /// The methods of a whole bundle; only main is tempted, so that it is run.
 pub fn draft(rng: &mut Rng, temptation: Option<Slip>) -> Draft {
+    let interface = Interface::any(rng);
+    draft_of(rng, interface, temptation)
+}
+
+/// Methods of these signatures, again and again until they are short enough.
+pub fn draft_of(rng: &mut Rng, interface: Interface, temptation: Option<Slip>) -> Draft {
     loop {
-        let interface = interface(rng);
         let methods: Vec<Method> = (0..interface.signatures.len())
             .map(|class| method(rng, &interface, class, temptation.filter(|_| class == 0)))
             .collect();
@@ -36,28 +41,6 @@ pub fn draft(rng: &mut Rng, temptation: Option<Slip>) -> Draft {
     }
 }
 
-/// The classes' argument descriptors, none for main, and what they throw.
-pub fn interface(rng: &mut Rng) -> Interface {
-    let count = if rng.chance(1, 12) {
-        8
-    } else {
-        rng.between(1, 4)
-    };
-    let descriptor = |rng: &mut Rng| match rng.chance(1, 4) {
-        true => INT,
-        false => rng.below(count) as u8,
-    };
-    let mut signatures = vec![vec![]];
-    for _ in 1..count {
-        let n = rng.pick(&[0, 1, 1, 2, 2, 3]);
-        signatures.push((0..n).map(|_| descriptor(rng)).collect());
-    }
-    Interface {
-        signatures,
-        exception: rng.below(count) as u8,
-    }
-}
-
 /// One method; tries again, shorter, when it grows too long.
 fn method(rng: &mut Rng, interface: &Interface, class: usize, slip: Option<Slip>) -> Method {
     let arguments = &interface.signatures[class];
@@ -66,26 +49,24 @@ fn method(rng: &mut Rng, interface: &Interface, class: usize, slip: Option<Slip>
         1..=10 => rng.between(1, 12),
         _ => rng.between(12, 45),
     };
-    loop {
+    written(rng, |rng| {
         let variables = (arguments.len() + size(rng)).min(16);
-        let first = random::first_row(arguments, variables).variables;
-        let stack_limit = size(rng);
+        let stack_limit = interface.stack_limit(rng);
+        let first = claimed(rng, arguments, variables, stack_limit);
         let mut writer = Writer::new(rng, interface, first, stack_limit, budget);
         writer.temptation = slip;
         writer.body();
-        if let Some(method) = writer.into_method(arguments.clone()) {
-            return method;
-        }
         budget = (budget / 2).max(1);
-    }
+        writer.into_method(arguments.clone())
+    })
 }
 
-/// How many variables or stack places: mostly a few, at times none or all.
-fn size(rng: &mut Rng) -> usize {
-    match rng.below(20) {
-        0 => 0,
-        1 => 16,
-        _ => rng.between(1, 6),
+/// What is written at last, when it isn't too long.
+pub fn written(rng: &mut Rng, mut write: impl FnMut(&mut Rng) -> Option<Method>) -> Method {
+    loop {
+        if let Some(method) = write(rng) {
+            return method;
+        }
     }
 }
 
@@ -99,6 +80,9 @@ impl Writer<'_> {
             }
         }
         self.finish();
+        if self.stack_limit > 0 && self.rng.chance(1, 6) {
+            self.unreached();
+        }
         while let Some(handler) = self.unplaced() {
             self.place(handler);
             self.meet_thrown();
@@ -215,18 +199,28 @@ impl Writer<'_> {
         let Entry::Ref { class, pair } = self.now.variables[v] else {
             return (self.now.variables[v], self.now.variables[v]);
         };
-        let levels = pair.dip.min(-pair.end).max(0);
-        let moved = match self.rng.below(3) {
-            0 => 0,
-            1 => levels,
-            _ => self.rng.between(0, levels as usize) as i16,
+        let given = match pair.end > 0 {
+            // Nothing is owing, however it is shared.
+            true => Pair::new(self.part(pair.dip), self.part(pair.end)),
+            false => {
+                let levels = self.part(pair.dip.min(-pair.end));
+                Pair::new(levels, -levels)
+            }
         };
-        let given = Pair::new(moved, -moved);
-        let kept = Pair::new(pair.dip - moved, pair.end + moved);
+        let kept = Pair::new(pair.dip - given.dip, pair.end - given.end);
         (
             self.perhaps_top(class, kept),
             self.perhaps_top(class, given),
         )
+    }
+
+    /// None, all, or some of so many.
+    fn part(&mut self, whole: i16) -> i16 {
+        match self.rng.below(3) {
+            0 => 0,
+            1 => whole,
+            _ => self.rng.between(0, whole as usize) as i16,
+        }
     }
 
     pub(super) fn perhaps_top(&mut self, class: u8, pair: Pair) -> Entry {

@@ -1,11 +1,12 @@
 //! Writes code while carrying its types forward, so that every instruction
 //! gets the row it needs.
 
+use super::interface::Interface;
 use crate::builder::{Method, Row};
 use crate::rng::Rng;
 use reference::bundle::{Addr, Instr, Var};
 use reference::entries::{Entry, Pair, MAX_WEIGHT};
-use reference::slips::{Slip, Slips};
+use reference::slips::{AsWritten, Slip};
 
 /// What holds between two instructions; the stack is bottom first.
 #[derive(Clone, Debug, PartialEq, Eq)]
@@ -49,15 +50,6 @@ struct Spot {
     used: bool,
 }
 
-/// What methods of one bundle know of each other.
-#[derive(Clone, Debug)]
-pub struct Interface {
-    /// Every class's argument descriptors.
-    pub signatures: Vec<Vec<u8>>,
-    /// The class of what is thrown.
-    pub exception: u8,
-}
-
 /// The method under way.
 #[derive(Debug)]
 pub struct Writer<'r> {
@@ -76,7 +68,7 @@ pub struct Writer<'r> {
 
 /// Whether an entry may be dropped under the law.
 pub fn free(entry: Entry) -> bool {
-    entry.may_go(&Slips::NONE)
+    entry.may_go::<AsWritten>()
 }
 
 impl<'r> Writer<'r> {
@@ -253,7 +245,12 @@ impl<'r> Writer<'r> {
             return None;
         }
         let at = |label: Addr| self.spots[usize::from(label.0)].address.map(Addr);
-        let code: Option<Vec<Instr>> = self.code.iter().map(|i| resolve(*i, at)).collect();
+        // Addresses in the place of label numbers.
+        let resolved = |&instr: &Instr| match instr.jump() {
+            Some(label) => at(label).map(|address| instr.aimed(address)),
+            None => Some(instr),
+        };
+        let code: Option<Vec<Instr>> = self.code.iter().map(resolved).collect();
         let rows = self.rows.iter().map(finished_row).collect();
         let variables = self.now.variables.len();
         Some(Method {
@@ -269,14 +266,4 @@ impl<'r> Writer<'r> {
 fn finished_row(shape: &Shape) -> Row {
     let stack: Vec<Entry> = shape.stack.iter().rev().copied().collect();
     Row::new(&shape.variables, &stack)
-}
-
-/// Puts addresses in the place of label numbers.
-fn resolve(instr: Instr, at: impl Fn(Addr) -> Option<Addr>) -> Option<Instr> {
-    Some(match instr {
-        Instr::If(label) => Instr::If(at(label)?),
-        Instr::New(class, Some(label)) => Instr::New(class, Some(at(label)?)),
-        Instr::Athrow(Some(label)) => Instr::Athrow(Some(at(label)?)),
-        other => other,
-    })
 }

@@ -2,16 +2,16 @@
 
 use reference::bundle::Verdict;
 use reference::machine::{fresh, step, State};
-use reference::slips::Slips;
 use reference::verify::verify;
 
 pub fn judge(bytes: &[u8]) -> Verdict {
-    verify(bytes, &Slips::NONE)
+    verify(bytes)
 }
 
 /// One step of thread 0.
 pub fn run(bytes: &[u8], state: &State, fails: bool) -> (u8, State) {
-    step(bytes, state, 0, fails, &Slips::NONE)
+    let mut next = state.clone();
+    (step(bytes, &mut next, 0, fails), next)
 }
 
 /// So many steps of thread 0 from the fresh machine: their answers, and the

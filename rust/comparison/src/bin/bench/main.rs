@@ -3,12 +3,13 @@
 //! `bench [rounds]` prints, for each input, nanoseconds a call (medians) and
 //! the ratio proved / reference: its median over the rounds, and its spread.
 
+mod flags;
+
 use comparison::digest;
 use comparison::proved;
 use generator::builder::{case_a, lay_out};
 use generator::families::sized;
 use reference::entries::Entry;
-use reference::slips::Slips;
 use reference::verify::verify;
 use std::hint::black_box;
 use std::time::{Duration, Instant};
@@ -39,7 +40,7 @@ fn main() {
     let rounds = std::env::args()
         .nth(1)
         .map_or(21, |a| a.parse().expect("a number"));
-    println!("cpu: {}", cpu());
+    flags::print();
     println!(
         "command: cargo run --release --offline --bin bench -- {rounds} (ratio: proved / Rust, median of {rounds} rounds)"
     );
@@ -47,14 +48,6 @@ fn main() {
     verify_lines(rounds);
     machine_lines(rounds);
     size_lines(rounds);
-}
-
-fn cpu() -> String {
-    let text = std::fs::read_to_string("/proc/cpuinfo").unwrap_or_default();
-    text.lines()
-        .find_map(|line| line.strip_prefix("model name")?.split(": ").nth(1))
-        .unwrap_or("unknown")
-        .to_string()
 }
 
 fn header() {
@@ -95,7 +88,7 @@ fn kinds(rounds: usize, name: &str, accepted: &[Vec<u8>], late: Vec<Vec<u8>>) {
 
 fn verify_line(rounds: usize, name: String, bundles: &[Vec<u8>]) {
     for b in bundles {
-        assert_eq!(proved::verdict(b), verify(b, &Slips::NONE));
+        assert_eq!(proved::verdict(b), verify(b));
     }
     let line = Line {
         name,
@@ -103,27 +96,29 @@ fn verify_line(rounds: usize, name: String, bundles: &[Vec<u8>]) {
         steps: 1,
     };
     let proved = |b: &[u8]| u64::from(hveitmar::verify(b).number());
-    let reference = |b: &[u8]| u64::from(verify(b, &Slips::NONE).number);
+    let reference = |b: &[u8]| u64::from(verify(b).number);
     print(&line, &measure(&line, rounds, proved, reference));
 }
 
 /// Every step checks the bundle (17) and the state (18) on both sides.
 fn machine_lines(rounds: usize) {
-    let schedule = vec![0; STEPS];
-    for (name, others) in [("small", 0), ("full", 7)] {
-        let bundle = sized::endless(others);
-        assert_eq!(
-            proved::digest(&bundle, &schedule),
-            digest::of_run(&bundle, &schedule, &Slips::NONE)
-        );
-        let line = Line {
-            name: format!("step on a {name} bundle"),
-            bundles: &[bundle],
-            steps: STEPS,
-        };
-        let proved = |b: &[u8]| proved::digest(b, black_box(&schedule));
-        let reference = |b: &[u8]| digest::of_run(b, black_box(&schedule), &Slips::NONE);
-        print(&line, &measure(&line, rounds, proved, reference));
+    for (name, others) in [("small", 0), ("full", 6)] {
+        for threads in [1, 8] {
+            let bundle = sized::endless(threads, others);
+            let schedule = sized::turns(threads, STEPS);
+            assert_eq!(
+                proved::digest(&bundle, &schedule),
+                digest::of_run(&bundle, &schedule)
+            );
+            let line = Line {
+                name: format!("step on a {name} bundle, live threads: {threads}"),
+                bundles: &[bundle],
+                steps: STEPS,
+            };
+            let proved = |b: &[u8]| proved::digest(b, black_box(&schedule));
+            let reference = |b: &[u8]| digest::of_run(b, black_box(&schedule));
+            print(&line, &measure(&line, rounds, proved, reference));
+        }
     }
 }
 
