@@ -34,7 +34,11 @@ fn is_argument(classes: &[u8], d: u8, x: Slot) -> bool
 fn argument_at(classes: &[u8], t: Thread, r: &[u8], j: u8) -> bool
     ensures { λ o. ⌜ o ≡ argumentAt (now (classes .entry)) t (at (now (r .entry))) j ⌝ }
 {
-    is_argument(classes, ground::byte(r, j as usize), threads::from_top(t, j))
+    is_argument(
+        classes,
+        ground::byte(r, j as usize),
+        threads::from_top(t, j),
+    )
 }
 
 // `r` is the record of the class, whose descriptors come first.
