@@ -54,6 +54,10 @@ recordFits b k = leb (k .offset + size k) (length b - 8)
 unfoldable pub partOf : List ℕ → Class → List ℕ
 partOf b k = refuse (recordFits b k) [] (part b (k .offset) (k .offset + size k))
 
+-- .. and where in the bundle that is
+unfoldable pub partPlace : List ℕ → Class → ℕ
+partPlace b k = refuse (recordFits b k) 0 (k .offset)
+
 -- where the instruction at address l stands in a record
 unfoldable pub instructionPlace : Class → ℕ → ℕ
 instructionPlace k l = k .args + 4 * (l - 1)

@@ -1,6 +1,6 @@
 -- The abstract program that rules, machine and soundness speak of. Rows are apart: the machine never reads them.
 use mathlib.Core.List.{List}
-use Prim.Native.Nat.{ℕ}
+use Prim.Native.Nat.{ℕ, _<_, _≤_}
 use Rattle.ground.specs.Bytes.{at}
 use Rattle.instructions.specs.declared.Instruction.{Instruction}
 use Rattle.bundle.specs.declared.Class.{Class}
@@ -20,6 +20,12 @@ pub record Program : Type 0 where
   pub classes : ℕ
   pub exception : ℕ
   pub method : ℕ → Method
+
+-- l is an address of class c
+pub record Address (P : Program) (c l : ℕ) : Type 0 where
+  pub class-known : c < P .classes
+  pub first : 1 ≤ l
+  pub last : l ≤ P .method c .code
 
 -- the method that a record is
 unfoldable pub methodOf : Class → List ℕ → Method

@@ -2,8 +2,8 @@
 ghost use mathlib.Core.Path.{_≡_};
 ghost use Prim.Native.Nat.{_+_, _*_, _<_, _≤_};
 ghost use lib.ListN.{length};
-ghost use Rattle.ground.specs.Bytes.{at};
-ghost use Rattle.bundle.specs.Container.{directoryAt, classes, exception, headAt, classAt, width, size, recordFits, partOf, codeFrom, noCode, instructionPlace, codeAt, instructionAt};
+ghost use Rattle.ground.specs.Bytes.{at, Begins};
+ghost use Rattle.bundle.specs.Container.{directoryAt, classes, exception, headAt, classAt, width, size, recordFits, partOf, partPlace, codeFrom, noCode, instructionPlace, codeAt, instructionAt};
 use instructions::Addr;
 use instructions::Code;
 use instructions::Instruction;
@@ -79,7 +79,7 @@ pub fn record_fits(b: &[u8], k: Class) -> bool
 
 // The record as a part of the lent bundle, no copy; empty where it does not fit.
 pub fn part_of<'a>(b: &'a [u8], k: Class) -> &'a [u8]
-    ensures { λ r. ⌜ now r ≡ partOf (now (b .entry)) k ⌝ }
+    ensures { λ r. ⌜ (now r ≡ partOf (now (b .entry)) k) × Begins r (b .entry) (partPlace (now (b .entry)) k) ⌝ }
 {
     if !record_fits(b, k) {
         return &b[..0];

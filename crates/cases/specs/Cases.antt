@@ -7,12 +7,12 @@ use Rattle.structure.specs.declared.Verdict.{Verdict}
 use Rattle.structure.specs.Verdicts.{verdict, ruleFails}
 use Rattle.entries.specs.Entries.{Entry, Int, Ref, Blank}
 use Rattle.rows.specs.Rows.{Row}
-use Rattle.rules.specs.Rule.{holds}
+use Rattle.rules.specs.Rule.{ruleHolds}
 use Rattle.rules.specs.Rules.{loadRule, storeRule, enterRule, exitRule}
 use Rattle.verifier.specs.Verdict.{verdictOf}
 use Rattle.values.specs.Values.{incOf}
 
--- what a case asks for: a verdict, whether a rule holds, or an integer
+-- what a case asks for: a verdict, whether a rule ruleHolds, or an integer
 pub data Answer : Type 0 where
   judged : Verdict → Answer
   held : Bool → Answer
@@ -96,17 +96,17 @@ rowWith x y = record { variable = λ i. x; depth = 1; stack = λ j. y }
 abbrev pair : ℕ → ℕ → Entry
 pair d e = Ref 0 d e
 
--- A, B (the end is too small), C (the dip is); D: (1,-1) loaded as (0,0) and (1,-1) holds; E: as (1,-1) twice fails; F: store over (1,-1) fails;
--- G: enter from (1,-1) to (2,-2) holds; H: exit from (0,0) fails; J: inc of 2147483647 gives -2147483648
+-- A, B (the end is too small), C (the dip is); D: (1,-1) loaded as (0,0) and (1,-1) ruleHolds; E: as (1,-1) twice fails; F: store over (1,-1) fails;
+-- G: enter from (1,-1) to (2,-2) ruleHolds; H: exit from (0,0) fails; J: inc of 2147483647 gives -2147483648
 abbrev pub cases : List Case
 cases =
     record { given = judged (verdictOf caseA); wanted = judged (verdict 0 1 0) }
     ∷ record { given = judged (verdictOf caseB); wanted = judged (ruleFails 0 5 3) }
     ∷ record { given = judged (verdictOf caseC); wanted = judged (ruleFails 0 8 2) }
-    ∷ record { given = held (holds 1 (loadRule 0 (row (pair 1 63)) (rowWith (pair 0 64) (pair 1 63)))); wanted = held true }
-    ∷ record { given = held (holds 1 (loadRule 0 (row (pair 1 63)) (rowWith (pair 1 63) (pair 1 63)))); wanted = held false }
-    ∷ record { given = held (holds 1 (storeRule 0 (rowWith (pair 1 63) Int) (row Int))); wanted = held false }
-    ∷ record { given = held (holds 1 (enterRule 0 (row (pair 1 63)) (row (pair 2 62)))); wanted = held true }
-    ∷ record { given = held (holds 1 (exitRule 0 (row (pair 0 64)) (row (pair 0 65)))); wanted = held false }
+    ∷ record { given = held (ruleHolds 1 (loadRule 0 (row (pair 1 63)) (rowWith (pair 0 64) (pair 1 63)))); wanted = held true }
+    ∷ record { given = held (ruleHolds 1 (loadRule 0 (row (pair 1 63)) (rowWith (pair 1 63) (pair 1 63)))); wanted = held false }
+    ∷ record { given = held (ruleHolds 1 (storeRule 0 (rowWith (pair 1 63) Int) (row Int))); wanted = held false }
+    ∷ record { given = held (ruleHolds 1 (enterRule 0 (row (pair 1 63)) (row (pair 2 62)))); wanted = held true }
+    ∷ record { given = held (ruleHolds 1 (exitRule 0 (row (pair 0 64)) (row (pair 0 65)))); wanted = held false }
     ∷ record { given = number (incOf (pos 2147483647)); wanted = number (negsuc 2147483647) }
     ∷ []

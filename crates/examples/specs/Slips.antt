@@ -9,7 +9,7 @@ use Rattle.entries.specs.Entries.{Entry, endOf, isInt, isReference, isOf}
 use Rattle.entries.specs.Fits.{mayGo, takes, Want}
 use Rattle.rows.specs.Rows.{Row, rowAt}
 use Rattle.matching.specs.Matching.{popped, pushed, stored, emptied, wants, wantsAt, edge, varsGo, stackGoes}
-use Rattle.rules.specs.Rule.{Rule, rule, holds}
+use Rattle.rules.specs.Rule.{Rule, rule, ruleHolds}
 use Rattle.rules.specs.Rules.{uncaughtGoes, thrown, made}
 use Rattle.machine.specs.Runs.{Step}
 use Rattle.examples.specs.Runs.{failing, main, i, top, int, none, free, owing, row, double}
@@ -255,20 +255,20 @@ pub record Slip : Type 0 where
 
 abbrev pub slips : List Slip
 slips =
-    record { bundle = copied; address = 4; why = 2; weakened = holds 2 (loadCopies 0 (at copied 4) (at copied 5)); schedule = main 7; wanted = 0 ∷ 0 ∷ 0 ∷ 0 ∷ 0 ∷ 0 ∷ 14 ∷ [] }
-    ∷ record { bundle = oneArm; address = 6; why = 3; weakened = holds 1 (ifOneArm (at oneArm 6) (at oneArm 7)); schedule = main 7; wanted = 0 ∷ 0 ∷ 0 ∷ 0 ∷ 0 ∷ 0 ∷ 15 ∷ [] }
-    ∷ record { bundle = skipped; address = 4; why = 0; weakened = holds 1 (newSkips 0 (at skipped 4) (at skipped 5)); schedule = main 3 ++ (failing 0 ∷ []); wanted = 0 ∷ 0 ∷ 0 ∷ 15 ∷ [] }
-    ∷ record { bundle = dropped; address = 5; why = 0; weakened = holds 1 (storeDrops 0 (at dropped 5) (at dropped 6)); schedule = main 6; wanted = 0 ∷ 0 ∷ 0 ∷ 0 ∷ 0 ∷ 15 ∷ [] }
-    ∷ record { bundle = kept; address = 4; why = 0; weakened = holds 1 (returnAtMinusOne 1 (at kept 4)); schedule = main 4; wanted = 0 ∷ 0 ∷ 0 ∷ 15 ∷ [] }
-    ∷ record { bundle = unheld; address = 3; why = 2; weakened = holds 1 (exitWithoutDip 0 (at unheld 3) (at unheld 4)); schedule = main 3; wanted = 0 ∷ 0 ∷ 14 ∷ [] }
-    ∷ record { bundle = toEmpty; address = 1; why = 0; weakened = holds 1 (newToEmpty 0 (at toEmpty 1) (at toEmpty 2) (at toEmpty 4)); schedule = failing 0 ∷ main 1; wanted = 0 ∷ 12 ∷ [] }
-    ∷ record { bundle = toDeeper; address = 1; why = 0; weakened = holds 1 (newToDeeper 0 (at toDeeper 1) (at toDeeper 2) (at toDeeper 4)); schedule = failing 0 ∷ main 2; wanted = 0 ∷ 0 ∷ 11 ∷ [] }
-    ∷ record { bundle = toAny; address = 1; why = 2; weakened = holds 1 (newToAny 0 (at toAny 1) (at toAny 2) (at toAny 4)); schedule = failing 0 ∷ main 2; wanted = 0 ∷ 0 ∷ 14 ∷ [] }
-    ∷ record { bundle = toAnyVariables; address = 4; why = 3; weakened = holds 1 (newToAnyVariables 0 (at toAnyVariables 4) (at toAnyVariables 5) (at toAnyVariables 8)); schedule = main 3 ++ (failing 0 ∷ main 2); wanted = 0 ∷ 0 ∷ 0 ∷ 0 ∷ 0 ∷ 15 ∷ [] }
-    ∷ record { bundle = onStack; address = 5; why = 0; weakened = holds 1 (newKeepsStack 1 0 (at onStack 5) (at onStack 6)); schedule = main 4 ++ (failing 0 ∷ []); wanted = 0 ∷ 0 ∷ 0 ∷ 0 ∷ 15 ∷ [] }
-    ∷ record { bundle = otherClass; address = 2; why = 0; weakened = holds 1 (throwAny 1 0 (at otherClass 2) (at otherClass 2)); schedule = main 2; wanted = 0 ∷ 13 ∷ [] }
-    ∷ record { bundle = restKept; address = 6; why = 0; weakened = holds 1 (throwKeepsRest 7 (at restKept 6) (at restKept 7)); schedule = main 8; wanted = 0 ∷ 0 ∷ 0 ∷ 0 ∷ 0 ∷ 0 ∷ 0 ∷ 15 ∷ [] }
-    ∷ record { bundle = topEnds; address = 5; why = 0; weakened = holds 1 (endsWithTop 1 (at topEnds 5)); schedule = main 5; wanted = 0 ∷ 0 ∷ 0 ∷ 0 ∷ 15 ∷ [] }
-    ∷ record { bundle = restEnds; address = 6; why = 0; weakened = holds 1 (endsWithRest 1 (at restEnds 6)); schedule = main 6; wanted = 0 ∷ 0 ∷ 0 ∷ 0 ∷ 0 ∷ 15 ∷ [] }
-    ∷ record { bundle = varEnds; address = 5; why = 0; weakened = holds 1 (endsWithVars (at varEnds 5)); schedule = main 5; wanted = 0 ∷ 0 ∷ 0 ∷ 0 ∷ 15 ∷ [] }
+    record { bundle = copied; address = 4; why = 2; weakened = ruleHolds 2 (loadCopies 0 (at copied 4) (at copied 5)); schedule = main 7; wanted = 0 ∷ 0 ∷ 0 ∷ 0 ∷ 0 ∷ 0 ∷ 14 ∷ [] }
+    ∷ record { bundle = oneArm; address = 6; why = 3; weakened = ruleHolds 1 (ifOneArm (at oneArm 6) (at oneArm 7)); schedule = main 7; wanted = 0 ∷ 0 ∷ 0 ∷ 0 ∷ 0 ∷ 0 ∷ 15 ∷ [] }
+    ∷ record { bundle = skipped; address = 4; why = 0; weakened = ruleHolds 1 (newSkips 0 (at skipped 4) (at skipped 5)); schedule = main 3 ++ (failing 0 ∷ []); wanted = 0 ∷ 0 ∷ 0 ∷ 15 ∷ [] }
+    ∷ record { bundle = dropped; address = 5; why = 0; weakened = ruleHolds 1 (storeDrops 0 (at dropped 5) (at dropped 6)); schedule = main 6; wanted = 0 ∷ 0 ∷ 0 ∷ 0 ∷ 0 ∷ 15 ∷ [] }
+    ∷ record { bundle = kept; address = 4; why = 0; weakened = ruleHolds 1 (returnAtMinusOne 1 (at kept 4)); schedule = main 4; wanted = 0 ∷ 0 ∷ 0 ∷ 15 ∷ [] }
+    ∷ record { bundle = unheld; address = 3; why = 2; weakened = ruleHolds 1 (exitWithoutDip 0 (at unheld 3) (at unheld 4)); schedule = main 3; wanted = 0 ∷ 0 ∷ 14 ∷ [] }
+    ∷ record { bundle = toEmpty; address = 1; why = 0; weakened = ruleHolds 1 (newToEmpty 0 (at toEmpty 1) (at toEmpty 2) (at toEmpty 4)); schedule = failing 0 ∷ main 1; wanted = 0 ∷ 12 ∷ [] }
+    ∷ record { bundle = toDeeper; address = 1; why = 0; weakened = ruleHolds 1 (newToDeeper 0 (at toDeeper 1) (at toDeeper 2) (at toDeeper 4)); schedule = failing 0 ∷ main 2; wanted = 0 ∷ 0 ∷ 11 ∷ [] }
+    ∷ record { bundle = toAny; address = 1; why = 2; weakened = ruleHolds 1 (newToAny 0 (at toAny 1) (at toAny 2) (at toAny 4)); schedule = failing 0 ∷ main 2; wanted = 0 ∷ 0 ∷ 14 ∷ [] }
+    ∷ record { bundle = toAnyVariables; address = 4; why = 3; weakened = ruleHolds 1 (newToAnyVariables 0 (at toAnyVariables 4) (at toAnyVariables 5) (at toAnyVariables 8)); schedule = main 3 ++ (failing 0 ∷ main 2); wanted = 0 ∷ 0 ∷ 0 ∷ 0 ∷ 0 ∷ 15 ∷ [] }
+    ∷ record { bundle = onStack; address = 5; why = 0; weakened = ruleHolds 1 (newKeepsStack 1 0 (at onStack 5) (at onStack 6)); schedule = main 4 ++ (failing 0 ∷ []); wanted = 0 ∷ 0 ∷ 0 ∷ 0 ∷ 15 ∷ [] }
+    ∷ record { bundle = otherClass; address = 2; why = 0; weakened = ruleHolds 1 (throwAny 1 0 (at otherClass 2) (at otherClass 2)); schedule = main 2; wanted = 0 ∷ 13 ∷ [] }
+    ∷ record { bundle = restKept; address = 6; why = 0; weakened = ruleHolds 1 (throwKeepsRest 7 (at restKept 6) (at restKept 7)); schedule = main 8; wanted = 0 ∷ 0 ∷ 0 ∷ 0 ∷ 0 ∷ 0 ∷ 0 ∷ 15 ∷ [] }
+    ∷ record { bundle = topEnds; address = 5; why = 0; weakened = ruleHolds 1 (endsWithTop 1 (at topEnds 5)); schedule = main 5; wanted = 0 ∷ 0 ∷ 0 ∷ 0 ∷ 15 ∷ [] }
+    ∷ record { bundle = restEnds; address = 6; why = 0; weakened = ruleHolds 1 (endsWithRest 1 (at restEnds 6)); schedule = main 6; wanted = 0 ∷ 0 ∷ 0 ∷ 0 ∷ 0 ∷ 15 ∷ [] }
+    ∷ record { bundle = varEnds; address = 5; why = 0; weakened = ruleHolds 1 (endsWithVars (at varEnds 5)); schedule = main 5; wanted = 0 ∷ 0 ∷ 0 ∷ 0 ∷ 15 ∷ [] }
     ∷ []

@@ -14,6 +14,10 @@ use Rattle.exports.specs.declared.Running.{Running}
 abbrev pub packed : Verdict → ℕ
 packed v = v .number + 256 * v .class + 65536 * v .address + 4294967296 * v .why
 
+-- a record's length (which is below 65,536), and in the low byte its byte i
+abbrev pub packedRecord : List ℕ → ℕ → ℕ
+packedRecord r i = 256 * (length r % 65536) + at r i
+
 -- a schedule byte: the low four bits are the thread, the top bit says that new fails
 abbrev pub who : ℕ → ℕ
 who x = x % 16

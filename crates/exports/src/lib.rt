@@ -3,7 +3,8 @@ ghost use mathlib.Core.Path.{_≡_};
 ghost use Prim.Native.Nat.{_<_};
 ghost use Rattle.verifier.specs.Verdict.{verdictOf};
 ghost use Rattle.machine.specs.Machine.{stepOf};
-ghost use Rattle.exports.specs.Exports.{packed, who, failing, advanced, digestOf};
+ghost use Rattle.structure.specs.Structure.{recordOf};
+ghost use Rattle.exports.specs.Exports.{packed, packedRecord, who, failing, advanced, digestOf};
 use state::State;
 use structure::Verdict;
 
@@ -22,12 +23,27 @@ fn pack(v: Verdict) -> u64
         + 4294967296 * (v.why as u64)
 }
 
+fn pack_record(r: &[u8], i: u16) -> u64
+    ensures { λ x. ⌜ x ≡ packedRecord (now (r .entry)) i ⌝ }
+{
+    256 * ((r.len() % 65536) as u64) + ground::byte(r, i as usize) as u64
+}
+
 // The verdict on a bundle: the number in the low byte, the class in the next, the address in the two above, why in the upper half.
 #[no_mangle]
 pub extern "C" fn hveitmar_verdict(b: &[u8]) -> u64
     ensures { λ r. ⌜ r ≡ packed (verdictOf (now (b .entry))) ⌝ }
 {
     pack(verifier::verify(b))
+}
+
+// The record of a class: its length (below 65,536), and in the low byte its byte i, 0 past its end.
+#[no_mangle]
+pub extern "C" fn hveitmar_record(b: &[u8], class: u8, i: u16) -> u64
+    ensures { λ r. ⌜ r ≡ packedRecord (recordOf (now (b .entry)) class) i ⌝ }
+{
+    let r = structure::record(b, class);
+    pack_record(r, i)
 }
 
 fn advance(b: &[u8], r: Running, x: u8) -> Running

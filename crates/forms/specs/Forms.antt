@@ -6,6 +6,7 @@ use Rattle.ground.specs.Bounded.{allBelow}
 use Rattle.entries.specs.Entries.{isTop, isBlank, isType, argumentEntry}
 use Rattle.entries.specs.Fits.{entryFits}
 use Rattle.rows.specs.Rows.{Row}
+use Rattle.rows.specs.Typed.{Typed}
 
 abbrev pub varFormed : Row → ℕ → Bool
 varFormed x i = isType (x .variable i)
@@ -34,3 +35,10 @@ firstVars vars args descriptor x = allBelow vars (firstVar args descriptor x)
 -- 10: row 1: depth 0; and its variables
 unfoldable pub firstRow : ℕ → ℕ → (ℕ → ℕ) → Row → Bool
 firstRow vars args descriptor x = eqb (x .depth) 0 && firstVars vars args descriptor x
+
+-- 8 at address l of class c, and 10 of class c, as they hold
+abbrev pub formedAt : Typed → ℕ → ℕ → Bool
+formedAt T c l = rowFormed (T .program .method c .vars) (T .program .method c .limit) (T .row c l)
+
+abbrev pub firstAt : Typed → ℕ → Bool
+firstAt T c = firstRow (T .program .method c .vars) (T .program .method c .args) (T .program .method c .descriptor) (T .row c 1)

@@ -5,7 +5,6 @@ use mathlib.Core.Bool.{Bool, true, false, cond, not}
 use Prim.Native.Nat.{ℕ, zero, suc, _+_, _<_, _≤_}
 use native.Mathlib.Nat.{le-of-suc-le-suc, not-suc-le-zero, eq-or-lt-of-le, le-antisymm}
 use native.Mathlib.Numerals.{add-one}
-use native.Mathlib.Omega.{arith}
 use borrow.Author.Tests.{not-true, not-false}
 use Rattle.ground.specs.Chain.{refuse, orThen, scan}
 use Rattle.ground.proofs.Bools.{never}
@@ -28,13 +27,6 @@ module _ {A : Type 0} where
   pub went-on : (v rest : A) {ok : Bool} → ok ≡ true → refuse ok v rest ≡ rest
   unfolding refuse
   went-on v rest e = rw e
-
--- a refusal that was not given
-pub refuse-elim : {A : Type 0} (bad : A → Bool) (ok : Bool) (v rest : A) → bad v ≡ true → bad (refuse ok v rest) ≡ false
-    → (ok ≡ true) × (bad rest ≡ false)
-unfolding refuse
-refuse-elim bad true v rest b h = (refl, h)
-refuse-elim bad false v rest b h = never b h
 
 module _ {A : Type 0} (bad : A → Bool) where
   pub then-stop : (u w : A) {v : A} → v ≡ u → bad v ≡ true → v ≡ orThen bad u w
@@ -90,32 +82,7 @@ module _ {A : Type 0} (bad : A → Bool) (pass : A) (fine : bad pass ≡ false) 
       ends v w true p h = never p h
       ends v w false p h = (p, last w (bad w) refl h)
 
-  -- a search that found nothing: each answer was well, and the result is `pass`
+  -- a search that found nothing: each answer was well
   pub scan-each : (n : ℕ) → bad (scan bad pass n f) ≡ false → (i : ℕ) → i < n → bad (f i) ≡ false
   scan-each zero h i l = absurd (not-suc-le-zero l)
   scan-each (suc n) h i l = ⊎-elim (λ q. rw q (steps n h .1)) (λ k. scan-each n (steps n h .0) i k) (eq-or-lt-of-le (le-of-suc-le-suc l))
-
-  pub scan-pass : (n : ℕ) → bad (scan bad pass n f) ≡ false → scan bad pass n f ≡ pass
-  unfolding scan orThen
-  scan-pass zero h = refl
-  scan-pass (suc n) h = rw (scan-pass n (steps n h .0), fine, steps n h .1)
-
-  pub scan-none : (n : ℕ) → ((i : ℕ) → i < n → bad (f i) ≡ false) → scan bad pass n f ≡ pass
-  unfolding scan orThen
-  scan-none zero h = refl
-  scan-none (suc n) h = rw (scan-none n (λ i l. h i (omega arith)), fine, h n (omega arith))
-
-  -- a search that found something: the answer is the first bad one
-  pub scan-first : (n : ℕ) → bad (scan bad pass n f) ≡ true
-      → (i : ℕ) × (i < n) × (scan bad pass n f ≡ f i) × ((j : ℕ) → j < i → bad (f j) ≡ false)
-  unfolding scan orThen
-  scan-first zero h = never h fine
-  scan-first (suc n) h = here (bad (scan bad pass n f)) refl (bad (f n)) refl (scan-first n)
-    where
-      here : (t : Bool) → bad (scan bad pass n f) ≡ t → (u : Bool) → bad (f n) ≡ u
-          → (bad (scan bad pass n f) ≡ true
-          → (i : ℕ) × (i < n) × (scan bad pass n f ≡ f i) × ((j : ℕ) → j < i → bad (f j) ≡ false))
-          → (i : ℕ) × (i < suc n) × (scan bad pass (suc n) f ≡ f i) × ((j : ℕ) → j < i → bad (f j) ≡ false)
-      here true p u q ih = let s = ih p in (s .0, omega (arith, s .1), rw p (s .2), s .3)
-      here false p true q ih = (n, omega arith, rw (p, q), scan-each n p)
-      here false p false q ih = never h (rw (p, q, fine))

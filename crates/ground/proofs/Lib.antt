@@ -5,4 +5,5 @@ pub mod Bounded
 pub mod Sums
 pub mod Writes
 pub mod Chain
+pub mod Lists
 pub mod Promises

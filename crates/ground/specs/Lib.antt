@@ -1,3 +1,4 @@
 pub mod Bytes
 pub mod Bounded
 pub mod Chain
+pub mod Lists

@@ -1,8 +1,8 @@
 -- Document 01, the instruction table: an instruction of four bytes (opcode, operand, address).
 use mathlib.Core.Bool.{Bool, true, false, cond, _&&_, _||_, not}
+use mathlib.Core.List.{List, [], _∷_}
 use Prim.Native.Nat.{ℕ}
 use lib.Dec.{leb, ltb, eqb}
-use Rattle.ground.specs.Chain.{refuse}
 use Rattle.instructions.specs.declared.Addr.{Addr}
 use Rattle.instructions.specs.declared.Var.{Var}
 use Rattle.instructions.specs.declared.Code.{Code}
@@ -15,82 +15,85 @@ addr a = record { 0 = a }
 abbrev pub var : ℕ → Var
 var v = record { 0 = v }
 
--- an operand or an address field of which the table says 0; anything else there is no instruction
-unfoldable pub zeroed : ℕ → Instruction → Instruction
-zeroed field i = refuse (eqb field 0) Nothing i
+-- what an operand or an address field holds (`none` is 0); `unlisted` of an opcode that is not in the table
+pub data Field : Type 0 where
+  none : Field
+  variable : Field
+  class : Field
+  target : Field
+  handler : Field
+  unlisted : Field
 
--- the table's rows, by opcode
-unfoldable pub instructionOf : ℕ → ℕ → ℕ → Instruction
-instructionOf opcode operand address =
-    cond (eqb opcode 1) (zeroed operand (zeroed address Inc))
-    (cond (eqb opcode 2) (zeroed operand (zeroed address Pop))
-    (cond (eqb opcode 3) (zeroed operand (zeroed address Push0))
-    (cond (eqb opcode 4) (zeroed address (Load (var operand)))
-    (cond (eqb opcode 5) (zeroed address (Store (var operand)))
-    (cond (eqb opcode 6) (zeroed operand (If (addr address)))
-    (cond (eqb opcode 7) (zeroed address (Enter (var operand)))
-    (cond (eqb opcode 8) (zeroed address (Exit (var operand)))
-    (cond (eqb opcode 9) (New operand (addr address))
-    (cond (eqb opcode 10) (zeroed address (Start operand))
-    (cond (eqb opcode 11) (zeroed operand (Throw (addr address)))
-    (cond (eqb opcode 12) (zeroed operand (zeroed address Return))
-    Nothing)))))))))))
+-- a line of the table: its opcode, the instruction of an operand x and an address a, what these two hold, and whether address k may hold it
+pub record Line : Type 0 where
+  pub opcode : ℕ
+  pub instruction : ℕ → ℕ → Instruction
+  pub operand : Field
+  pub address : Field
+  pub ends : Bool
 
+abbrev pub goesOn : ℕ → (ℕ → ℕ → Instruction) → Field → Field → Line
+goesOn opcode instruction operand address = record { opcode = opcode; instruction = instruction; operand = operand; address = address; ends = false }
+
+abbrev pub mayEnd : ℕ → (ℕ → ℕ → Instruction) → Field → Field → Line
+mayEnd opcode instruction operand address = record { opcode = opcode; instruction = instruction; operand = operand; address = address; ends = true }
+
+-- No., instruction, operand, address field
+unfoldable pub table : List Line
+table =
+    goesOn 1 (λ x a. Inc) none none
+    ∷ goesOn 2 (λ x a. Pop) none none
+    ∷ goesOn 3 (λ x a. Push0) none none
+    ∷ goesOn 4 (λ x a. Load (var x)) variable none
+    ∷ goesOn 5 (λ x a. Store (var x)) variable none
+    ∷ goesOn 6 (λ x a. If (addr a)) none target
+    ∷ goesOn 7 (λ x a. Enter (var x)) variable none
+    ∷ goesOn 8 (λ x a. Exit (var x)) variable none
+    ∷ goesOn 9 (λ x a. New x (addr a)) class handler
+    ∷ goesOn 10 (λ x a. Start x) class none
+    ∷ mayEnd 11 (λ x a. Throw (addr a)) none handler
+    ∷ mayEnd 12 (λ x a. Return) none none
+    ∷ []
+
+abbrev pub noLine : Line
+noLine = goesOn 0 (λ x a. Nothing) unlisted unlisted
+
+-- the first line with an opcode, and `noLine` where there is none
+unfoldable pub find : List Line → ℕ → Line
+find [] opcode = noLine
+find (x ∷ xs) opcode = cond (eqb opcode (x .opcode)) x (find xs opcode)
+
+unfoldable pub lineOf : ℕ → Line
+lineOf opcode = find table opcode
+
+-- the instruction that four bytes are, by their opcode; whether their fields keep to the table is `instructionOk`
 abbrev pub decoded : Code → Instruction
-decoded x = instructionOf (x .opcode) (x .operand) (x .address)
+decoded x = lineOf (x .opcode) .instruction (x .operand) (x .address)
 
+-- what a field may hold, in a bundle of so many classes, a method of so many variables and addresses
+abbrev pub fieldOk : ℕ → ℕ → ℕ → Field → ℕ → Bool
+-- 0
+fieldOk classes vars code none x = eqb x 0
 -- a variable is below V
-abbrev pub varOk : ℕ → Var → Bool
-varOk vars v = ltb (v .0) vars
-
+fieldOk classes vars code variable x = ltb x vars
 -- a class is one of the bundle's
-abbrev pub classOk : ℕ → ℕ → Bool
-classOk classes c = ltb c classes
+fieldOk classes vars code class x = ltb x classes
+-- target 1..k
+fieldOk classes vars code target x = leb 1 x && leb x code
+-- handler 0..k, 0 is none
+fieldOk classes vars code handler x = leb x code
+fieldOk classes vars code unlisted x = false
 
--- a target is 1..k
-unfoldable pub targetOk : ℕ → Addr → Bool
-targetOk code a = leb 1 (a .0) && leb (a .0) code
-
--- a handler is 0..k, 0 is none
-abbrev pub handlerOk : ℕ → Addr → Bool
-handlerOk code a = leb (a .0) code
-
--- an instruction keeps to the table, in a bundle of so many classes, a method of so many variables and addresses
-abbrev pub tableOk : ℕ → ℕ → ℕ → Instruction → Bool
-tableOk classes vars code Inc = true
-tableOk classes vars code Pop = true
-tableOk classes vars code Push0 = true
-tableOk classes vars code (Load v) = varOk vars v
-tableOk classes vars code (Store v) = varOk vars v
-tableOk classes vars code (If a) = targetOk code a
-tableOk classes vars code (Enter v) = varOk vars v
-tableOk classes vars code (Exit v) = varOk vars v
-tableOk classes vars code (New c h) = classOk classes c && handlerOk code h
-tableOk classes vars code (Start c) = classOk classes c
-tableOk classes vars code (Throw h) = handlerOk code h
-tableOk classes vars code Return = true
-tableOk classes vars code Nothing = false
-
--- athrow and return: what address k holds
-abbrev pub endsCode : Instruction → Bool
-endsCode Inc = false
-endsCode Pop = false
-endsCode Push0 = false
-endsCode (Load v) = false
-endsCode (Store v) = false
-endsCode (If a) = false
-endsCode (Enter v) = false
-endsCode (Exit v) = false
-endsCode (New c h) = false
-endsCode (Start c) = false
-endsCode (Throw h) = true
-endsCode Return = true
-endsCode Nothing = false
+-- the operand and the address field are as the opcode's line says
+unfoldable pub tableOk : ℕ → ℕ → ℕ → Code → Bool
+tableOk classes vars code x =
+    let y = lineOf (x .opcode) in
+    fieldOk classes vars code (y .operand) (x .operand) && fieldOk classes vars code (y .address) (x .address)
 
 -- address k holds athrow or return
-unfoldable pub lastOk : ℕ → ℕ → Instruction → Bool
-lastOk code l i = not (eqb l code) || endsCode i
+unfoldable pub lastOk : ℕ → ℕ → Code → Bool
+lastOk code l x = not (eqb l code) || lineOf (x .opcode) .ends
 
 -- the instruction at address l breaks nothing of the table
-unfoldable pub instructionOk : ℕ → ℕ → ℕ → ℕ → Instruction → Bool
-instructionOk classes vars code l i = tableOk classes vars code i && lastOk code l i
+unfoldable pub instructionOk : ℕ → ℕ → ℕ → ℕ → Code → Bool
+instructionOk classes vars code l x = tableOk classes vars code x && lastOk code l x

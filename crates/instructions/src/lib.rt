@@ -1,8 +1,6 @@
 // The instruction table of document 01: an instruction from its bytes, and whether it keeps to the table.
 ghost use mathlib.Core.Path.{_≡_};
-ghost use mathlib.Core.Bool.{_&&_};
-ghost use lib.Dec.{leb, ltb, eqb};
-ghost use Rattle.instructions.specs.Table.{zeroed, decoded, tableOk, endsCode, lastOk, instructionOk};
+ghost use Rattle.instructions.specs.Table.{lineOf, decoded, tableOk, lastOk, instructionOk};
 
 // An address of a method, from 1; as a handler, 0 is none.
 pub struct Addr(pub u16);
@@ -30,144 +28,78 @@ pub enum Instruction {
     Start(u8),
     Throw(Addr),
     Return,
-    // No row of the table.
+    // Of an opcode that is not in the table.
     Nothing,
 }
 
-fn zero_operand(operand: u8, i: Instruction) -> Instruction
-    ensures { λ r. ⌜ r ≡ zeroed operand i ⌝ }
-{
-    if operand != 0 {
-        return Instruction::Nothing;
-    }
-    i
-}
-
-fn zero_address(address: u16, i: Instruction) -> Instruction
-    ensures { λ r. ⌜ r ≡ zeroed address i ⌝ }
-{
-    if address != 0 {
-        return Instruction::Nothing;
-    }
-    i
-}
-
-fn bare(operand: u8, address: u16, i: Instruction) -> Instruction
-    ensures { λ r. ⌜ r ≡ zeroed operand (zeroed address i) ⌝ }
-{
-    zero_operand(operand, zero_address(address, i))
-}
-
+// By the opcode alone: a bundle whose fields are not as the table says draws 7, and is never run.
 pub fn instruction_of(x: Code) -> Instruction
     ensures { λ r. ⌜ r ≡ decoded x ⌝ }
 {
-    let operand = x.operand;
-    let address = x.address;
     let opcode = x.opcode;
     match opcode {
-        1 => bare(operand, address, Instruction::Inc),
-        2 => bare(operand, address, Instruction::Pop),
-        3 => bare(operand, address, Instruction::Push0),
-        4 => zero_address(address, Instruction::Load(Var(operand))),
-        5 => zero_address(address, Instruction::Store(Var(operand))),
-        6 => zero_operand(operand, Instruction::If(Addr(address))),
-        7 => zero_address(address, Instruction::Enter(Var(operand))),
-        8 => zero_address(address, Instruction::Exit(Var(operand))),
-        9 => Instruction::New(operand, Addr(address)),
-        10 => zero_address(address, Instruction::Start(operand)),
-        11 => zero_operand(operand, Instruction::Throw(Addr(address))),
-        12 => bare(operand, address, Instruction::Return),
+        1 => Instruction::Inc,
+        2 => Instruction::Pop,
+        3 => Instruction::Push0,
+        4 => Instruction::Load(Var(x.operand)),
+        5 => Instruction::Store(Var(x.operand)),
+        6 => Instruction::If(Addr(x.address)),
+        7 => Instruction::Enter(Var(x.operand)),
+        8 => Instruction::Exit(Var(x.operand)),
+        9 => Instruction::New(x.operand, Addr(x.address)),
+        10 => Instruction::Start(x.operand),
+        11 => Instruction::Throw(Addr(x.address)),
+        12 => Instruction::Return,
         _ => Instruction::Nothing,
     }
 }
 
-// The table is held against the four bytes themselves, so that no instruction is made only to be looked at.
-fn bare_ok(operand: u8, address: u16) -> bool
-    ensures { λ r. ⌜ r ≡ (eqb operand 0 && eqb address 0) ⌝ }
-{
-    (operand == 0) & (address == 0)
-}
-
-// A variable below V, or a class of the bundle, in the operand.
-fn below_ok(bound: u8, operand: u8, address: u16) -> bool
-    ensures { λ r. ⌜ r ≡ (eqb address 0 && ltb operand bound) ⌝ }
-{
-    (address == 0) & (operand < bound)
-}
-
-fn target_ok(code: u16, operand: u8, address: u16) -> bool
-    ensures { λ r. ⌜ r ≡ (eqb operand 0 && (leb 1 address && leb address code)) ⌝ }
-{
-    (operand == 0) & ((1 <= address) & (address <= code))
-}
-
-fn new_ok(classes: u8, code: u16, operand: u8, address: u16) -> bool
-    ensures { λ r. ⌜ r ≡ (ltb operand classes && leb address code) ⌝ }
-{
-    (operand < classes) & (address <= code)
-}
-
-fn throw_ok(code: u16, operand: u8, address: u16) -> bool
-    ensures { λ r. ⌜ r ≡ (eqb operand 0 && leb address code) ⌝ }
-{
-    (operand == 0) & (address <= code)
-}
-
+// An arm is a line of the table. It is held against the four bytes themselves, so that no instruction is made only to be looked at.
 fn table_ok(classes: u8, vars: u8, code: u16, x: Code) -> bool
-    ensures { λ r. ⌜ r ≡ tableOk classes vars code (decoded x) ⌝ }
+    ensures { λ r. ⌜ r ≡ tableOk classes vars code x ⌝ }
 {
     let operand = x.operand;
     let address = x.address;
     let opcode = x.opcode;
     match opcode {
-        1 => bare_ok(operand, address),
-        2 => bare_ok(operand, address),
-        3 => bare_ok(operand, address),
-        4 => below_ok(vars, operand, address),
-        5 => below_ok(vars, operand, address),
-        6 => target_ok(code, operand, address),
-        7 => below_ok(vars, operand, address),
-        8 => below_ok(vars, operand, address),
-        9 => new_ok(classes, code, operand, address),
-        10 => below_ok(classes, operand, address),
-        11 => throw_ok(code, operand, address),
-        12 => bare_ok(operand, address),
+        1 => (operand == 0) & (address == 0),
+        2 => (operand == 0) & (address == 0),
+        3 => (operand == 0) & (address == 0),
+        4 => (operand < vars) & (address == 0),
+        5 => (operand < vars) & (address == 0),
+        6 => (operand == 0) & ((1 <= address) & (address <= code)),
+        7 => (operand < vars) & (address == 0),
+        8 => (operand < vars) & (address == 0),
+        9 => (operand < classes) & (address <= code),
+        10 => (operand < classes) & (address == 0),
+        11 => (operand == 0) & (address <= code),
+        12 => (operand == 0) & (address == 0),
         _ => false,
     }
 }
 
-fn ends_code(i: Instruction) -> bool
-    ensures { λ r. ⌜ r ≡ endsCode i ⌝ }
+fn ends_code(opcode: u8) -> bool
+    ensures { λ r. ⌜ r ≡ lineOf opcode .ends ⌝ }
 {
-    match i {
-        Instruction::Inc => false,
-        Instruction::Pop => false,
-        Instruction::Push0 => false,
-        Instruction::Load(_) => false,
-        Instruction::Store(_) => false,
-        Instruction::If(_) => false,
-        Instruction::Enter(_) => false,
-        Instruction::Exit(_) => false,
-        Instruction::New(_, _) => false,
-        Instruction::Start(_) => false,
-        Instruction::Throw(_) => true,
-        Instruction::Return => true,
-        Instruction::Nothing => false,
+    match opcode {
+        11 => true,
+        12 => true,
+        _ => false,
     }
 }
 
 fn last_ok(code: u16, l: Addr, x: Code) -> bool
-    ensures { λ r. ⌜ r ≡ lastOk code (l .0) (decoded x) ⌝ }
+    ensures { λ r. ⌜ r ≡ lastOk code (l .0) x ⌝ }
 {
     if l.0 != code {
         return true;
     }
-    ends_code(instruction_of(x))
+    ends_code(x.opcode)
 }
 
 // Document 01's verdict 7 at address l of a method.
 pub fn instruction_ok(classes: u8, vars: u8, code: u16, l: Addr, x: Code) -> bool
-    ensures { λ r. ⌜ r ≡ instructionOk classes vars code (l .0) (decoded x) ⌝ }
+    ensures { λ r. ⌜ r ≡ instructionOk classes vars code (l .0) x ⌝ }
 {
     if !table_ok(classes, vars, code, x) {
         return false;

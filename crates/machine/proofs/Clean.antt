@@ -1,35 +1,35 @@
 -- THEOREM: along any list of steps from a fresh machine every place out of use is integer 0: a fresh machine has all else 0, a place that falls out of use becomes integer 0, and a step writes no other place out of use.
 use mathlib.Core.Path.{_≡_, refl}
-use mathlib.Core.Bool.{Bool, true, false, cond, _||_}
+use mathlib.Core.Bool.{Bool, true, false, cond}
 use mathlib.Core.List.{List, [], _∷_}
 use Prim.Native.Nat.{ℕ, _+_, _≤_, _<_}
 use lib.ListN.{getD-replicate}
-use lib.Dec.{ltb, leb, eqb}
+use lib.Dec.{ltb, eqb}
 use borrow.Author.Tests.{ltb-true, leb-true, not-true}
-use Rattle.ground.specs.Chain.{refuse}
-use Rattle.ground.proofs.Bools.{and-fst, and-snd, never}
+use Rattle.ground.proofs.Bools.{and-fst, never}
 use Rattle.ground.proofs.Bounded.{first-is}
 use Rattle.instructions.specs.declared.Addr.{Addr}
 use Rattle.instructions.specs.declared.Var.{Var}
 use Rattle.instructions.specs.declared.Instruction.{Instruction}
 use Rattle.instructions.specs.declared.Instruction.the-variants.{Inc, Pop, Push0, Load, Store, If, Enter, Exit, New, Start, Throw, Return, Nothing}
-use Rattle.instructions.specs.Table.{tableOk, instructionOk}
+use Rattle.instructions.proofs.Table.{InstructionFits}
 use Rattle.bundle.specs.Container.{exception}
 use Rattle.bundle.specs.Program.{Method, Program, programOf}
 use Rattle.structure.proofs.Structured.{WellFormed}
 use Rattle.values.specs.declared.Slot.{Slot}
-use Rattle.values.specs.Values.{zeroSlot, refSlot, objectOf, incSlot, jumps}
+use Rattle.values.specs.Values.{zeroSlot, refSlot, incSlot, jumps}
 use Rattle.threads.specs.declared.Thread.{Thread}
-use Rattle.threads.specs.Threads.{idle, topOf, varOf, popped, started}
+use Rattle.threads.specs.Threads.{idle, topOf, varOf, pushed, popped, started}
 use Rattle.state.specs.declared.State.{State}
 use Rattle.state.specs.State.{threadAt, withThread, withCount, withObject, emptyState, notLive, lowestFree}
-use Rattle.belongs.proofs.Belongs.{Belongs, belongs-elim}
+use Rattle.belongs.proofs.Belongs.{Belongs}
 use Rattle.machine.specs.declared.Stepped.{Stepped}
-use Rattle.machine.specs.Answers.{refused, wentTo, wentOn}
-use Rattle.machine.specs.Instructions.{incStep, popStep, push0Step, loadStep, storeStep, ifStep, enterObject, enterStep, exitObject, exitStep, endStep, throwStep, athrowStep, makeStep, newStep, startedBy, startStep}
-use Rattle.machine.specs.Machine.{mainThread, execOf, runOf, stepOf, freshOf}
+use Rattle.machine.specs.Faults.{lockOf, intFault, newFails, faultOf}
+use Rattle.machine.specs.Waits.{startWait, waitOf}
+use Rattle.machine.specs.Moves.{wentTo, wentOn, incMove, storeMove, counted, endMove, throwMove, makeMove, startMove, moveOf}
+use Rattle.machine.specs.Machine.{mainThread, stepOf, freshOf}
 use Rattle.machine.specs.Runs.{Step, after, run, reached}
-use Rattle.machine.proofs.Ready.{formed}
+use Rattle.machine.proofs.Refusals.{tested, either, refuses, methodHere, instructionHere, Moving, step-by}
 use Rattle.machine.proofs.Writes.{write-or}
 use Rattle.machine.proofs.Changes.{grown}
 use Rattle.machine.proofs.CleanPlaces.{zero-new, CleanThread, CleanLive, clean-live, live-clean, ended-clean, started-clean, topped-clean, pushed-clean, popped-clean, stored-clean}
@@ -60,17 +60,7 @@ free-idle s l = not-true _ (first-is 8 (notLive s) l)
 record Cleans (P : Program) (r : Stepped) : Type 0 where
   cleans : Clean P (r .state)
 
-either : {P : Program} (t : Bool) (a b : Stepped) → Cleans P a → Cleans P b → Cleans P (cond t a b)
-either true a b p q = p
-either false a b p q = q
-
-unless : {P : Program} (s : State) → Clean P s → (ok : Bool) (n : ℕ) (rest : Stepped) → (ok ≡ true → Cleans P rest)
-    → Cleans P (refuse ok (refused n s) rest)
-unfolding refuse
-unless s h true n rest k = k refl
-unless s h false n rest k = record { cleans = h }
-
--- an instruction of thread i, which is t and live
+-- a move of thread i, which is t and live
 module _ (P : Program) (s : State) (h : Clean P s) (i : ℕ) (t : Thread) (p : CleanLive P (t .class) t) where
   abbrev method : Method
   method = P .method (t .class)
@@ -78,110 +68,68 @@ module _ (P : Program) (s : State) (h : Clean P s) (i : ℕ) (t : Thread) (p : C
   goes : (s′ : State) → Clean P s′ → (u : Thread) → CleanLive P (t .class) u → (a : ℕ) → Cleans P (wentTo s′ i u a)
   goes s′ h′ u q a = record { cleans = thread-clean P s′ h′ i _ (live-clean P (t .class) u a q) }
 
-  inc-clean : Cleans P (incStep s i t)
-  unfolding incStep
-  inc-clean = unless s h _ _ _ (λ e. unless s h _ _ _ (λ f. goes s h _ (topped-clean P (t .class) t p (incSlot (topOf t)) (leb-true _ _ e)) _))
+  inc-clean : intFault t ≡ 0 → Cleans P (incMove s i t)
+  inc-clean f = goes s h _ (topped-clean P (t .class) t p (incSlot (topOf t)) (leb-true _ _ (tested _ _ _ f .0))) _
 
-  pop-clean : Cleans P (popStep s i t)
-  unfolding popStep
-  pop-clean = unless s h _ _ _ (λ e. goes s h _ (popped-clean P (t .class) t p 1) _)
+  pop-clean : (a : ℕ) → Cleans P (wentTo s i (popped 1 t) a)
+  pop-clean a = goes s h _ (popped-clean P (t .class) t p 1) a
 
-  push0-clean : (limit : ℕ) → Cleans P (push0Step s i t limit)
-  unfolding push0Step
-  push0-clean limit = unless s h _ _ _ (λ e. goes s h _ (pushed-clean P (t .class) t p zeroSlot) _)
+  push-clean : (x : Slot) → Cleans P (wentOn s i (t .at) (pushed t x))
+  push-clean x = goes s h _ (pushed-clean P (t .class) t p x) _
 
-  load-clean : (limit : ℕ) (v : Var) → Cleans P (loadStep s i t limit v)
-  unfolding loadStep
-  load-clean limit v = unless s h _ _ _ (λ e. goes s h _ (pushed-clean P (t .class) t p (varOf t (v .0))) _)
-
-  store-clean : (v : Var) → v .0 < method .vars → Cleans P (storeStep s i t v)
-  unfolding storeStep
-  store-clean v b = unless s h _ _ _ (λ e. goes s h _ (popped-clean P (t .class) _ (stored-clean P (t .class) t p (v .0) (topOf t) b) 1) _)
-
-  if-clean : (a : Addr) → Cleans P (ifStep s i t a)
-  unfolding ifStep
-  if-clean a =
-      unless s h _ _ _ (λ e. unless s h _ _ _ (λ f.
-      either (jumps (topOf t)) _ _ (goes s h _ (popped-clean P (t .class) t p 1) _) (goes s h _ (popped-clean P (t .class) t p 1) _)))
+  store-clean : (v : Var) → v .0 < method .vars → Cleans P (storeMove s i t v)
+  store-clean v b = goes s h _ (popped-clean P (t .class) _ (stored-clean P (t .class) t p (v .0) (topOf t) b) 1) _
 
   -- a count is no place
-  counts-clean : (o n : ℕ) → Cleans P (wentOn (withCount s i o n) i t t)
-  counts-clean o n = goes (withCount s i o n) (record { clean-at = h .clean-at }) t p (t .at .0 + 1)
+  counted-clean : (o n : ℕ) → Cleans P (counted s i t o n)
+  counted-clean o n = goes (withCount s i o n) (record { clean-at = h .clean-at }) t p (t .at .0 + 1)
 
-  enter-clean : (v : Var) → Cleans P (enterStep s i t v)
-  unfolding enterStep enterObject
-  enter-clean v = unless s h _ _ _ (λ e. unless s h _ _ _ (λ f. unless s h _ _ _ (λ g. counts-clean (objectOf (varOf t (v .0))) _)))
+  end-clean : (n : ℕ) → Cleans P (endMove s i t (method .vars) n)
+  end-clean n = record { cleans = thread-clean P s h i _ (ended-clean P (t .class) t p) }
 
-  exit-clean : (v : Var) → Cleans P (exitStep s i t v)
-  unfolding exitStep exitObject
-  exit-clean v = unless s h _ _ _ (λ e. unless s h _ _ _ (λ f. counts-clean (objectOf (varOf t (v .0))) _))
+  throw-clean : (a : Addr) (x : Slot) → Cleans P (throwMove s i t (method .vars) a x)
+  throw-clean a x =
+      either (Cleans P) (eqb (a .0) 0) _ _ (λ _. end-clean 2)
+      (λ _. goes s h _ (pushed-clean P (t .class) (popped (t .depth) t) (popped-clean P (t .class) t p (t .depth)) x) _)
 
-  end-clean : (n : ℕ) → Cleans P (endStep s i t (method .vars) n)
-  unfolding endStep
-  end-clean n = unless s h _ _ _ (λ e. record { cleans = thread-clean P s h i _ (ended-clean P (t .class) t p) })
+  make-clean : (k : ℕ) → Cleans P (makeMove s i t k)
+  make-clean k = goes _ (object-clean P s h k) _ (pushed-clean P (t .class) t p (refSlot (s .objects))) _
 
-  throw-clean : (limit : ℕ) (a : Addr) (x : Slot) → Cleans P (throwStep s i t limit (method .vars) a x)
-  unfolding throwStep
-  throw-clean limit a x =
-      either (eqb (a .0) 0) _ _ (end-clean 2)
-      (unless s h _ _ _ (λ e. goes s h _ (pushed-clean P (t .class) (popped (t .depth) t) (popped-clean P (t .class) t p (t .depth)) x) _))
-
-  athrow-clean : (exception limit : ℕ) (a : Addr) → Cleans P (athrowStep s i t exception limit (method .vars) a)
-  unfolding athrowStep
-  athrow-clean exception limit a = unless s h _ _ _ (λ e. unless s h _ _ _ (λ f. throw-clean limit a (topOf t)))
-
-  make-clean : (limit k : ℕ) → Cleans P (makeStep s i t limit k)
-  unfolding makeStep
-  make-clean limit k = unless s h _ _ _ (λ e. goes _ (object-clean P s h k) _ (pushed-clean P (t .class) t p (refSlot (s .objects))) _)
-
-  new-clean : (limit k : ℕ) (a : Addr) (fails : Bool) → Cleans P (newStep s i t limit (method .vars) k a fails)
-  unfolding newStep
-  new-clean limit k a fails = either (fails || leb 32 (s .objects)) _ _ (throw-clean limit a (refSlot 0)) (make-clean limit k)
-
-  start-clean : (k args : ℕ) (descriptor : ℕ → ℕ) → args ≤ P .method k .vars → Cleans P (startStep s i t args descriptor k)
-  unfolding startStep startedBy
-  start-clean k args descriptor b =
-      unless s h _ _ _ (λ e. unless s h _ _ _ (λ f. unless s h _ _ _ (λ g.
-      goes _ (begun (ltb-true (lowestFree s) 8 g)) _ (popped-clean P (t .class) t p (args + 1)) _)))
+  start-clean : (k args : ℕ) → args ≤ P .method k .vars → startWait s ≡ 0 → Cleans P (startMove s i t args k)
+  start-clean k args b w = goes _ begun _ (popped-clean P (t .class) t p (args + 1)) _
     where
-      begun : lowestFree s < 8 → Clean P (withThread s (lowestFree s) (started (threadAt s (lowestFree s)) t k args))
-      begun l = thread-clean P s h (lowestFree s) _ (started-clean P (threadAt s (lowestFree s)) t k args b (free-idle s l) (h .clean-at (lowestFree s) l))
+      l : lowestFree s < 8
+      l = ltb-true (lowestFree s) 8 (tested _ _ _ w .0)
+
+      begun : Clean P (withThread s (lowestFree s) (started (threadAt s (lowestFree s)) t k args))
+      begun = thread-clean P s h (lowestFree s) _ (started-clean P (threadAt s (lowestFree s)) t k args b (free-idle s l) (h .clean-at (lowestFree s) l))
 
   -- by what the table says of the instruction
-  arm-clean : WellFormed P → (fails : Bool) (x : Instruction) → tableOk (P .classes) (method .vars) (method .code) x ≡ true
-      → Cleans P (execOf P s i t method fails x)
-  arm-clean wf fails Inc e = inc-clean
-  arm-clean wf fails Pop e = pop-clean
-  arm-clean wf fails Push0 e = push0-clean (method .limit)
-  arm-clean wf fails (Load v) e = load-clean (method .limit) v
-  arm-clean wf fails (Store v) e = store-clean v (ltb-true _ _ e)
-  arm-clean wf fails (If a) e = if-clean a
-  arm-clean wf fails (Enter v) e = enter-clean v
-  arm-clean wf fails (Exit v) e = exit-clean v
-  arm-clean wf fails (New k a) e = new-clean (method .limit) k a fails
-  arm-clean wf fails (Start k) e = start-clean k (P .method k .args) (P .method k .descriptor) (wf .args-vars k (ltb-true _ _ e))
-  arm-clean wf fails (Throw a) e = athrow-clean (P .exception) (method .limit) a
-  arm-clean wf fails Return e = end-clean 1
-  arm-clean wf fails Nothing e = never e refl
-
-  exec-clean : WellFormed P → (fails : Bool) (x : Instruction) → instructionOk (P .classes) (method .vars) (method .code) (t .at .0) x ≡ true
-      → Cleans P (execOf P s i t method fails x)
-  unfolding instructionOk
-  exec-clean wf fails x e = arm-clean wf fails x (and-fst (tableOk (P .classes) (method .vars) (method .code) x) _ e)
-
-runOf-clean : (P : Program) → WellFormed P → (s : State) → Clean P s → Belongs P s → (i : ℕ) → i < 8 → threadAt s i .live ≡ true → (fails : Bool)
-    → Cleans P (runOf P s i (threadAt s i) fails)
-unfolding runOf
-runOf-clean P wf s h g i l a fails =
-    let p = g .live-placed i l a in
-    exec-clean P s h i (threadAt s i) (clean-live P (threadAt s i) a (h .clean-at i l)) wf fails _
-    (wf .table (threadAt s i .class) (threadAt s i .at .0) (p .class-known) (p .address-first) (p .address-last))
+  move-clean : WellFormed P → (fails : Bool) (x : Instruction) → InstructionFits (P .classes) (method .vars) (method .code) (t .at .0) x
+      → faultOf P s i t method fails x ≡ 0 → waitOf s i t x ≡ 0 → Cleans P (moveOf P s i t method fails x)
+  move-clean wf fails Inc e f w = inc-clean f
+  move-clean wf fails Pop e f w = pop-clean _
+  move-clean wf fails Push0 e f w = push-clean zeroSlot
+  move-clean wf fails (Load v) e f w = push-clean (varOf t (v .0))
+  move-clean wf fails (Store v) e f w = store-clean v (e .0)
+  move-clean wf fails (If a) e f w = either (Cleans P) (jumps (topOf t)) _ _ (λ _. pop-clean _) (λ _. pop-clean _)
+  move-clean wf fails (Enter v) e f w = counted-clean (lockOf t v) _
+  move-clean wf fails (Exit v) e f w = counted-clean (lockOf t v) _
+  move-clean wf fails (New k a) e f w = either (Cleans P) (newFails s fails) _ _ (λ _. throw-clean a (refSlot 0)) (λ _. make-clean k)
+  move-clean wf fails (Start k) e f w = start-clean k (P .method k .args) (wf .args-vars k (e .0)) w
+  move-clean wf fails (Throw a) e f w = throw-clean a (topOf t)
+  move-clean wf fails Return e f w = end-clean 1
+  move-clean wf fails Nothing e f w = absurd e
 
 step-cleans : (b : List ℕ) (s : State) (i : ℕ) (fails : Bool) → Clean (programOf b) s → Cleans (programOf b) (stepOf b s i fails)
-unfolding stepOf
-step-cleans b s i fails h =
-    unless s h _ _ _ (λ e. unless s h _ _ _ (λ f. unless s h _ _ _ (λ g.
-    runOf-clean (programOf b) (formed b e) s h (belongs-elim (programOf b) s f) i (ltb-true i 8 (and-fst (ltb i 8) _ g)) (and-snd (ltb i 8) _ g) fails)))
+step-cleans b s i fails h = step-by (Cleans (programOf b)) b s i fails (λ n. record { cleans = h }) go
+  where
+    go : Moving b s i fails → Cleans (programOf b) (moveOf (programOf b) s i (threadAt s i) (methodHere b s i) fails (instructionHere b s i))
+    go m =
+        let p = m .belongs .live-placed i (m .thread-8) (m .live) in
+        let e = m .formed .table (threadAt s i .class) (threadAt s i .at .0) (p .class-known) (p .address-first) (p .address-last) in
+        move-clean (programOf b) s h i (threadAt s i) (clean-live (programOf b) (threadAt s i) (m .live) (h .clean-at i (m .thread-8))) (m .formed) fails (instructionHere b s i)
+        e (m .no-fault) (m .no-wait)
 
 -- THEOREM: where every place out of use is integer 0, it is so after a step, whatever the step answers; so too with 17 and 18, which give back the state as given.
 pub step-clean : (b : List ℕ) (s : State) (i : ℕ) (fails : Bool) → Clean (programOf b) s → Clean (programOf b) (stepOf b s i fails .state)
@@ -202,7 +150,7 @@ fresh-clean b = made .cleans
   where
     made : Cleans (programOf b) (freshOf b)
     made =
-        unless emptyState (empty-clean (programOf b)) _ _ _ (λ e.
+        refuses (Cleans (programOf b)) emptyState _ _ _ (λ _. record { cleans = empty-clean (programOf b) }) (λ e.
         record { cleans = thread-clean (programOf b) (withObject emptyState (exception b)) (object-clean (programOf b) emptyState (empty-clean (programOf b)) (exception b)) 0 mainThread (main-clean (programOf b)) })
 
 -- ---- a list of steps

@@ -13,7 +13,7 @@ use Rattle.bundle.specs.Program.{Program}
 use Rattle.values.specs.declared.Slot.{Slot}
 use Rattle.values.specs.Values.{zeroSlot}
 use Rattle.threads.specs.declared.Thread.{Thread}
-use Rattle.threads.specs.Threads.{entryOf, withStack, withAt, topped, pushed, popped, stored, ended, started}
+use Rattle.threads.specs.Threads.{fromTop, withStack, withAt, topped, pushed, popped, stored, ended, started}
 use Rattle.machine.proofs.Writes.{write-in}
 
 -- ---- variables or stack places
@@ -83,8 +83,8 @@ module _ (P : Program) where
   unfolding started
   started-clean old t c args k a h = record { variables = record { zero-at = others }; places = rw a at (h .places) }
     where
-      others : (v : ℕ) → P .method c .vars ≤ v → getD (setBelow args (entryOf t) (replicate 16 zeroSlot)) v zeroSlot ≡ zeroSlot
-      others v l = rw (set-above (entryOf t) (replicate 16 zeroSlot) args v zeroSlot (omega arith)) (zero-new 0 16 .zero-at v (omega arith))
+      others : (v : ℕ) → P .method c .vars ≤ v → getD (setBelow args (fromTop t) (replicate 16 zeroSlot)) v zeroSlot ≡ zeroSlot
+      others v l = rw (set-above (fromTop t) (replicate 16 zeroSlot) args v zeroSlot (omega arith)) (zero-new 0 16 .zero-at v (omega arith))
 
   module _ (c : ℕ) (t : Thread) (h : CleanLive P c t) where
     pub topped-clean : (x : Slot) → 1 ≤ t .depth → CleanLive P c (topped t x)

@@ -12,7 +12,7 @@ use Rattle.values.specs.declared.Value.the-variants.{Int, Ref}
 use Rattle.values.specs.declared.Slot.{Slot}
 use Rattle.values.specs.Values.{zeroSlot, incValue, incSlot, refersValue, refers}
 use Rattle.threads.specs.declared.Thread.{Thread}
-use Rattle.threads.specs.Threads.{varOf, entryOf, withAt, topped, pushed, popped, stored}
+use Rattle.threads.specs.Threads.{varOf, fromTop, withAt, topped, pushed, popped, stored}
 use Rattle.belongs.proofs.Belongs.{Placed}
 use Rattle.machine.proofs.Writes.{write-or, write-in}
 
@@ -61,7 +61,7 @@ module _ (P : Program) (objects : ℕ) (t : Thread) where
         stack-refers = p .stack-refers;
       }
 
-  pub entry-refers : Placed P objects t → (j : ℕ) → j < t .depth → refers objects (entryOf t j) ≡ true
+  pub entry-refers : Placed P objects t → (j : ℕ) → j < t .depth → refers objects (fromTop t j) ≡ true
   entry-refers p j l = p .stack-refers (t .depth - 1 - j) (omega arith)
 
   module _ (u : Thread) (m : Moved P objects t u) where

@@ -1,14 +1,10 @@
 -- What a step gives: the answer of document 01's table, and the state.
-use mathlib.Core.Bool.{Bool, cond}
-use Prim.Native.Nat.{ℕ, _+_}
-use lib.Dec.{leb}
+use mathlib.Core.Bool.{Bool}
+use Prim.Native.Nat.{ℕ}
+use lib.Dec.{eqb}
 use Rattle.ground.specs.Chain.{refuse}
-use Rattle.threads.specs.declared.Thread.{Thread}
-use Rattle.threads.specs.Threads.{withAt}
 use Rattle.state.specs.declared.State.{State}
-use Rattle.state.specs.State.{withThread}
 use Rattle.machine.specs.declared.Stepped.{Stepped}
-use Rattle.machine.specs.declared.Turn.{Turn}
 
 -- all but 0, 1, 2 give back the state as given
 abbrev pub refused : ℕ → State → Stepped
@@ -18,14 +14,10 @@ refused n s = record { answer = n; state = s }
 abbrev pub unless : Bool → ℕ → State → Stepped → Stepped
 unless ok n s rest = refuse ok (refused n s) rest
 
--- 0: thread i goes on as t, at address a
-abbrev pub wentTo : State → ℕ → Thread → ℕ → Stepped
-wentTo s i t a = record { answer = 0; state = withThread s i (withAt t a) }
+-- the number n where the test fails, else what follows
+abbrev pub test : Bool → ℕ → ℕ → ℕ
+test ok n rest = refuse ok n rest
 
--- thread i, which was t, goes on as u at the next address
-abbrev pub wentOn : State → ℕ → Thread → Thread → Stepped
-wentOn s i t u = wentTo s i u (t .at .0 + 1)
-
--- what a turn of thread i makes of the state
-abbrev pub settled : State → ℕ → Turn → Stepped
-settled s i w = cond (leb 3 (w .answer)) (refused (w .answer) s) (record { answer = w .answer; state = withThread s i (w .thread) })
+-- the answer n where a test drew it; 0 is none, and then what follows
+unfoldable pub unlessDrawn : ℕ → State → Stepped → Stepped
+unlessDrawn n s rest = unless (eqb n 0) n s rest

@@ -1,4 +1,6 @@
 pub mod Answers
-pub mod Instructions
+pub mod Faults
+pub mod Waits
+pub mod Moves
 pub mod Machine
 pub mod Runs

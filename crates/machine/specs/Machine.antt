@@ -6,7 +6,6 @@ use lib.Dec.{ltb, eqb}
 use lib.ListN.{replicate}
 use Rattle.instructions.specs.Table.{addr}
 use Rattle.instructions.specs.declared.Instruction.{Instruction}
-use Rattle.instructions.specs.declared.Instruction.the-variants.{Inc, Pop, Push0, Load, Store, If, Enter, Exit, New, Start, Throw, Return, Nothing}
 use Rattle.bundle.specs.Container.{exception}
 use Rattle.bundle.specs.Program.{Method, Program, programOf}
 use Rattle.structure.specs.Structure.{structureOf}
@@ -16,8 +15,10 @@ use Rattle.state.specs.declared.State.{State}
 use Rattle.state.specs.State.{threadAt, withThread, withObject, emptyState}
 use Rattle.belongs.specs.Belongs.{stateOk}
 use Rattle.machine.specs.declared.Stepped.{Stepped}
-use Rattle.machine.specs.Answers.{refused, unless}
-use Rattle.machine.specs.Instructions.{incStep, popStep, push0Step, loadStep, storeStep, ifStep, enterStep, exitStep, endStep, athrowStep, newStep, startStep}
+use Rattle.machine.specs.Answers.{unless, unlessDrawn}
+use Rattle.machine.specs.Faults.{faultOf}
+use Rattle.machine.specs.Waits.{waitOf}
+use Rattle.machine.specs.Moves.{moveOf}
 
 -- thread 0 live at address 1 of class 0
 abbrev pub mainThread : Thread
@@ -35,21 +36,12 @@ readable b = eqb (structureOf b .number) 0
 unfoldable pub freshOf : List ℕ → Stepped
 freshOf b = unless (readable b) 17 emptyState (record { answer = 0; state = freshState (exception b) })
 
--- an instruction of thread i, which is t and stands in the method m
+-- an instruction of thread i, which is t and stands in the method m: faults by number, then 3 or 4, and then its move
 abbrev pub execOf : Program → State → ℕ → Thread → Method → Bool → Instruction → Stepped
-execOf P s i t m fails Inc = incStep s i t
-execOf P s i t m fails Pop = popStep s i t
-execOf P s i t m fails Push0 = push0Step s i t (m .limit)
-execOf P s i t m fails (Load v) = loadStep s i t (m .limit) v
-execOf P s i t m fails (Store v) = storeStep s i t v
-execOf P s i t m fails (If a) = ifStep s i t a
-execOf P s i t m fails (Enter v) = enterStep s i t v
-execOf P s i t m fails (Exit v) = exitStep s i t v
-execOf P s i t m fails (New c h) = newStep s i t (m .limit) (m .vars) c h fails
-execOf P s i t m fails (Start c) = startStep s i t (P .method c .args) (P .method c .descriptor) c
-execOf P s i t m fails (Throw h) = athrowStep s i t (P .exception) (m .limit) (m .vars) h
-execOf P s i t m fails Return = endStep s i t (m .vars) 1
-execOf P s i t m fails Nothing = refused 17 s
+execOf P s i t m fails x =
+    unlessDrawn (faultOf P s i t m fails x) s
+    (unlessDrawn (waitOf s i t x) s
+    (moveOf P s i t m fails x))
 
 -- the instruction at the thread's address of its class
 unfoldable pub runOf : Program → State → ℕ → Thread → Bool → Stepped

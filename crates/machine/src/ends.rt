@@ -1,9 +1,12 @@
 // return, athrow and new.
 ghost use mathlib.Core.Path.{_≡_};
 ghost use Prim.Native.Nat.{_<_};
+ghost use Rattle.threads.specs.Threads.{topOf};
 ghost use Rattle.state.specs.declared.State.{State};
-ghost use Rattle.machine.specs.Answers.{settled};
-ghost use Rattle.machine.specs.Instructions.{endStep, throwStep, athrowStep, makeStep, newStep};
+ghost use Rattle.state.specs.State.{withThread};
+ghost use Rattle.machine.specs.Answers.{unlessDrawn};
+ghost use Rattle.machine.specs.Faults.{pushFault, endFault, throwFault, athrowFault, newFault};
+ghost use Rattle.machine.specs.Moves.{endMove, throwMove, makeMove, newMove};
 use crate::Stepped;
 use crate::Turn;
 use crate::moves;
@@ -14,16 +17,17 @@ use threads::Thread;
 use values::Slot;
 
 pub(crate) fn end_turn(counts: &[u16], i: u8, t: Thread, vars: u8, n: u8) -> Turn
-    requires { ⌜ n < 3 ⌝ }
-    ensures { λ r. ⌜ ((s : State) → s .counts ≡ now (counts .entry) → settled s i r ≡ endStep s i t vars n) ⌝ }
+    ensures { λ r. ⌜ (r .fault ≡ endFault (now (counts .entry)) i) × (r .fault ≡ 0 → (s : State) → record { answer = r .answer; state = withThread s i (r .thread) } ≡ endMove s i t vars n) ⌝ }
 {
     if !state::holds_nothing(counts, i) {
         return Turn {
-            answer: 15,
+            fault: 15,
+            answer: n,
             thread: t,
         };
     }
     Turn {
+        fault: 0,
         answer: n,
         thread: threads::end(t, vars),
     }
@@ -31,19 +35,21 @@ pub(crate) fn end_turn(counts: &[u16], i: u8, t: Thread, vars: u8, n: u8) -> Tur
 
 // x is thrown.
 fn throw_turn(counts: &[u16], i: u8, t: Thread, limit: u8, vars: u8, h: Addr, x: Slot) -> Turn
-    ensures { λ r. ⌜ ((s : State) → s .counts ≡ now (counts .entry) → settled s i r ≡ throwStep s i t limit vars h x) ⌝ }
+    ensures { λ r. ⌜ (r .fault ≡ throwFault (now (counts .entry)) i limit h) × (r .fault ≡ 0 → (s : State) → record { answer = r .answer; state = withThread s i (r .thread) } ≡ throwMove s i t vars h x) ⌝ }
 {
     if h.0 == 0 {
         return end_turn(counts, i, t, vars, 2);
     }
     if limit < 1 {
         return Turn {
-            answer: 12,
+            fault: 12,
+            answer: 0,
             thread: t,
         };
     }
     let u = threads::push(threads::pop(t, t.depth), x);
     Turn {
+        fault: 0,
         answer: 0,
         thread: threads::go(u, h),
     }
@@ -58,7 +64,7 @@ pub(crate) fn athrow_step(
     vars: u8,
     h: Addr,
 ) -> Stepped
-    ensures { λ r. ⌜ r ≡ athrowStep s i t exception limit vars h ⌝ }
+    ensures { λ r. ⌜ r ≡ unlessDrawn (athrowFault s i t exception limit h) s (throwMove s i t vars h (topOf t)) ⌝ }
 {
     if t.depth < 1 {
         return Stepped {
@@ -78,7 +84,7 @@ pub(crate) fn athrow_step(
 
 fn make_step(s: State, i: u8, t: Thread, limit: u8, c: u8) -> Stepped
     requires { ⌜ t .at .0 < 65535 ⌝ }
-    ensures { λ r. ⌜ r ≡ makeStep s i t limit c ⌝ }
+    ensures { λ r. ⌜ r ≡ unlessDrawn (pushFault t limit) s (makeMove s i t c) ⌝ }
 {
     if limit <= t.depth {
         return Stepped {
@@ -88,7 +94,7 @@ fn make_step(s: State, i: u8, t: Thread, limit: u8, c: u8) -> Stepped
     }
     let u = threads::push(t, values::ref_slot(s.objects));
     let next = state::add_object(s, c);
-    moves::went_to(next, i, u, Addr(t.at.0 + 1))
+    moves::went_on(next, i, t.at, u)
 }
 
 // A failed new throws object 0.
@@ -103,7 +109,7 @@ pub(crate) fn new_step(
     fails: bool,
 ) -> Stepped
     requires { ⌜ t .at .0 < 65535 ⌝ }
-    ensures { λ r. ⌜ r ≡ newStep s i t limit vars c h fails ⌝ }
+    ensures { λ r. ⌜ r ≡ unlessDrawn (newFault s i t limit h fails) s (newMove s i t vars c h fails) ⌝ }
 {
     if fails || 32 <= s.objects {
         return moves::settle(

@@ -22,10 +22,11 @@ pub struct Stepped {
     pub answer: u8,
 }
 
-// A step that leaves all but its thread alone: how the thread goes on, and the answer.
+// A step that leaves all but its thread alone: the fault that it draws, and where that is 0, the answer and how the thread goes on. It is made without the state, which each function that takes it copies.
 struct Turn {
     thread: Thread,
     answer: u8,
+    fault: u8,
 }
 
 fn main_thread() -> Thread

@@ -1,18 +1,28 @@
 // monitorenter and monitorexit. A count belongs to the object, so two variables that name one object count together.
 ghost use mathlib.Core.Path.{_≡_};
 ghost use Prim.Native.Nat.{_<_};
-ghost use Rattle.machine.specs.Instructions.{enterObject, enterStep, exitObject, exitStep};
+ghost use Rattle.machine.specs.Answers.{unlessDrawn};
+ghost use Rattle.machine.specs.Faults.{enterFault, exitFault};
+ghost use Rattle.machine.specs.Waits.{enterWait};
+ghost use Rattle.machine.specs.Moves.{enterMove, exitMove};
 use crate::Stepped;
 use crate::moves;
-use instructions::Addr;
 use instructions::Var;
 use state::State;
 use threads::Thread;
 
-fn enter_object(s: State, i: u8, t: Thread, o: u8) -> Stepped
+pub(crate) fn enter_step(s: State, i: u8, t: Thread, v: Var) -> Stepped
     requires { ⌜ t .at .0 < 65535 ⌝ }
-    ensures { λ r. ⌜ r ≡ enterObject s i t o ⌝ }
+    ensures { λ r. ⌜ r ≡ unlessDrawn (enterFault (s .counts) i t v) s (unlessDrawn (enterWait (s .counts) i t v) s (enterMove s i t v)) ⌝ }
 {
+    let x = threads::var(t, v);
+    if values::is_int(x) {
+        return Stepped {
+            answer: 13,
+            state: s,
+        };
+    }
+    let o = values::object_of(x);
     let n = state::count(&s.counts, i, o);
     if 2047 <= n {
         return Stepped {
@@ -27,12 +37,12 @@ fn enter_object(s: State, i: u8, t: Thread, o: u8) -> Stepped
         };
     }
     let next = state::put_count(s, i, o, n + 1);
-    moves::went_to(next, i, t, Addr(t.at.0 + 1))
+    moves::went_on(next, i, t.at, t)
 }
 
-pub(crate) fn enter_step(s: State, i: u8, t: Thread, v: Var) -> Stepped
+pub(crate) fn exit_step(s: State, i: u8, t: Thread, v: Var) -> Stepped
     requires { ⌜ t .at .0 < 65535 ⌝ }
-    ensures { λ r. ⌜ r ≡ enterStep s i t v ⌝ }
+    ensures { λ r. ⌜ r ≡ unlessDrawn (exitFault (s .counts) i t v) s (exitMove s i t v) ⌝ }
 {
     let x = threads::var(t, v);
     if values::is_int(x) {
@@ -41,13 +51,7 @@ pub(crate) fn enter_step(s: State, i: u8, t: Thread, v: Var) -> Stepped
             state: s,
         };
     }
-    enter_object(s, i, t, values::object_of(x))
-}
-
-fn exit_object(s: State, i: u8, t: Thread, o: u8) -> Stepped
-    requires { ⌜ t .at .0 < 65535 ⌝ }
-    ensures { λ r. ⌜ r ≡ exitObject s i t o ⌝ }
-{
+    let o = values::object_of(x);
     let n = state::count(&s.counts, i, o);
     if n <= 0 {
         return Stepped {
@@ -56,19 +60,5 @@ fn exit_object(s: State, i: u8, t: Thread, o: u8) -> Stepped
         };
     }
     let next = state::put_count(s, i, o, n - 1);
-    moves::went_to(next, i, t, Addr(t.at.0 + 1))
-}
-
-pub(crate) fn exit_step(s: State, i: u8, t: Thread, v: Var) -> Stepped
-    requires { ⌜ t .at .0 < 65535 ⌝ }
-    ensures { λ r. ⌜ r ≡ exitStep s i t v ⌝ }
-{
-    let x = threads::var(t, v);
-    if values::is_int(x) {
-        return Stepped {
-            answer: 13,
-            state: s,
-        };
-    }
-    exit_object(s, i, t, values::object_of(x))
+    moves::went_on(next, i, t.at, t)
 }

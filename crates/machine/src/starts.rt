@@ -3,10 +3,12 @@ ghost use mathlib.Core.Path.{_≡_};
 ghost use Prim.Native.Nat.{_<_};
 ghost use Rattle.ground.specs.Bytes.{at};
 ghost use Rattle.bundle.specs.Program.{methodAt};
-ghost use Rattle.machine.specs.Instructions.{isObject, isArgument, argumentAt, argumentsOk, startedBy, startStep};
+ghost use Rattle.machine.specs.Answers.{unlessDrawn};
+ghost use Rattle.machine.specs.Faults.{isObject, isArgument, argumentAt, argumentsOk, startFault};
+ghost use Rattle.machine.specs.Waits.{startWait};
+ghost use Rattle.machine.specs.Moves.{startedBy, startMove};
 use crate::Stepped;
 use crate::moves;
-use instructions::Addr;
 use state::State;
 use threads::Thread;
 use values::Slot;
@@ -32,7 +34,11 @@ fn is_argument(classes: &[u8], d: u8, x: Slot) -> bool
 fn argument_at(classes: &[u8], t: Thread, r: &[u8], j: u8) -> bool
     ensures { λ o. ⌜ o ≡ argumentAt (now (classes .entry)) t (at (now (r .entry))) j ⌝ }
 {
-    is_argument(classes, ground::byte(r, j as usize), threads::entry(t, j))
+    is_argument(
+        classes,
+        ground::byte(r, j as usize),
+        threads::from_top(t, j),
+    )
 }
 
 // `r` is the record of the class, whose descriptors come first.
@@ -44,7 +50,7 @@ fn arguments_ok(classes: &[u8], t: Thread, args: u8, r: &[u8], c: u8) -> bool
             return false;
         }
     }
-    is_object(classes, c, threads::entry(t, args))
+    is_object(classes, c, threads::from_top(t, args))
 }
 
 fn started_by(s: State, i: u8, t: Thread, args: u8, c: u8, j: u8) -> Stepped
@@ -53,12 +59,12 @@ fn started_by(s: State, i: u8, t: Thread, args: u8, c: u8, j: u8) -> Stepped
 {
     let w = threads::start(state::thread(s, j), t, c, args);
     let next = state::put_thread(s, j, w);
-    moves::went_to(next, i, threads::pop(t, args + 1), Addr(t.at.0 + 1))
+    moves::went_on(next, i, t.at, threads::pop(t, args + 1))
 }
 
 fn start_step(s: State, i: u8, t: Thread, args: u8, r: &[u8], c: u8) -> Stepped
     requires { ⌜ t .at .0 < 65535 ⌝ }
-    ensures { λ o. ⌜ o ≡ startStep s i t args (at (now (r .entry))) c ⌝ }
+    ensures { λ o. ⌜ o ≡ unlessDrawn (startFault (s .classes) t args (at (now (r .entry))) c) s (unlessDrawn (startWait s) s (startMove s i t args c)) ⌝ }
 {
     if t.depth <= args {
         return Stepped {
@@ -84,7 +90,7 @@ fn start_step(s: State, i: u8, t: Thread, args: u8, r: &[u8], c: u8) -> Stepped
 
 pub(crate) fn start_class(b: &[u8], s: State, i: u8, t: Thread, c: u8) -> Stepped
     requires { ⌜ t .at .0 < 65535 ⌝ }
-    ensures { λ o. ⌜ o ≡ startStep s i t (methodAt (now (b .entry)) c .args) (methodAt (now (b .entry)) c .descriptor) c ⌝ }
+    ensures { λ o. ⌜ o ≡ unlessDrawn (startFault (s .classes) t (methodAt (now (b .entry)) c .args) (methodAt (now (b .entry)) c .descriptor) c) s (unlessDrawn (startWait s) s (startMove s i t (methodAt (now (b .entry)) c .args) c)) ⌝ }
 {
     let k = bundle::class_at(b, c);
     start_step(s, i, t, k.args, bundle::part_of(b, k), c)

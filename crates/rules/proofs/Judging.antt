@@ -12,15 +12,15 @@ use Rattle.entries.proofs.Types.{compare-few}
 use Rattle.matching.specs.Matching.{Edge, meets, thenShort, edgeShort, variableShort, entryShort}
 use Rattle.matching.proofs.Scans.{then-nothing, then-few, first-few}
 use Rattle.rules.specs.declared.Ruling.{Ruling}
-use Rattle.rules.specs.Rule.{Rule, rule, allMeet, met, shortAlong, shortOf, holds, why, unmet, ruling}
+use Rattle.rules.specs.Rule.{Rule, rule, allMeet, met, shortAlong, shortOf, ruleHolds, why, unmet, ruling}
 
 -- a ruling of what is asked, and of the comparisons
 abbrev pub judged : Bool → ℕ → Ruling
 judged a w = refuse a unmet (record { met = true; short = w })
 
 module _ (vars : ℕ) (r : Rule) where
-  pub ruling-holds : (ruling vars r .met && eqb (ruling vars r .short) 0) ≡ holds vars r
-  unfolding ruling holds refuse
+  pub ruling-holds : (ruling vars r .met && eqb (ruling vars r .short) 0) ≡ ruleHolds vars r
+  unfolding ruling ruleHolds refuse
   ruling-holds = go (met r)
     where
       go : (t : Bool) → (refuse t unmet (record { met = true; short = shortOf vars r }) .met && eqb (refuse t unmet (record { met = true; short = shortOf vars r }) .short) 0) ≡ (t && eqb (shortOf vars r) 0)

@@ -1,4 +1,4 @@
--- What rules ask, with depths as the code compares them; rulings of the throws; and rules that never hold.
+-- What rules ask, with depths as the code compares them; rulings of the throws; and a rule that never holds.
 use mathlib.Core.Path.{_≡_, refl, _∙_}
 use mathlib.Core.List.{[], _∷_}
 use mathlib.Core.Bool.{Bool, true, false, cond, _&&_}
@@ -6,10 +6,6 @@ use Prim.Native.Nat.{ℕ, _+_, _<_}
 use lib.Dec.{eqb, leb}
 use borrow.Author.Tests.{lt-leb}
 use Rattle.ground.specs.Chain.{refuse}
-use Rattle.instructions.specs.declared.Instruction.{Instruction}
-use Rattle.instructions.specs.declared.Instruction.the-variants.{Nothing}
-use Rattle.instructions.specs.Table.{zeroed}
-use Rattle.bundle.specs.Program.{Program}
 use Rattle.entries.specs.Entries.{Entry, isInt, isOf}
 use Rattle.entries.specs.Fits.{mayGo, compare, want}
 use Rattle.rows.specs.Rows.{Row}
@@ -17,7 +13,7 @@ use Rattle.matching.specs.Matching.{popped, pushed, emptied, wants, edge, thenS
 use Rattle.matching.proofs.Scans.{then-nothing}
 use Rattle.matching.proofs.Edges.{thrown-edge}
 use Rattle.rules.specs.Rule.{allMeet, met, shortAlong, unmet, ruling}
-use Rattle.rules.specs.Rules.{incRule, popRule, storeRule, ifRule, uncaughtGoes, thrown, made, throwRule, newRule, startRule, ruleOf}
+use Rattle.rules.specs.Rules.{incRule, popRule, storeRule, ifRule, uncaughtGoes, thrown, made, throwRule, newRule, startRule}
 use Rattle.rules.proofs.Judging.{judged, and-true, and-assoc, ruling-any, ruling-more, met-one, met-two, popped-depth, popped-depths, replaced-depth}
 
 pub inc-met : (x y : Row) → met (incRule x y) ≡ ((leb 1 (x .depth) && isInt (x .stack 0)) && eqb (x .depth) (y .depth))
@@ -41,16 +37,6 @@ pub start-too-many : (vars args : ℕ) (descriptor : ℕ → ℕ) (c : ℕ) (x y
     → ruling vars (startRule args descriptor c x y) ≡ unmet
 unfolding startRule ruling met refuse
 start-too-many vars args descriptor c x y l = rw (lt-leb (args + 1) (x .depth) l)
-
--- what is no instruction breaks the rule
-pub zeroed-rule : (P : Program) (vars : ℕ) (row : ℕ → Row) (l field : ℕ) (i : Instruction)
-    → ruling vars (ruleOf P vars row l (zeroed field i)) ≡ refuse (eqb field 0) unmet (ruling vars (ruleOf P vars row l i))
-unfolding zeroed ruling met refuse
-zeroed-rule P vars row l field i = go (eqb field 0)
-  where
-    go : (t : Bool) → ruling vars (ruleOf P vars row l (refuse t Nothing i)) ≡ refuse t unmet (ruling vars (ruleOf P vars row l i))
-    go true = refl
-    go false = refl
 
 -- ---- a throw of e, with the handler h: what goes uncaught is told together with the handler's depth, the variables apart from e
 module _ (vars h : ℕ) (e : Entry) (x z : Row) where

@@ -10,6 +10,7 @@ use Rattle.bundle.specs.Program.{Program}
 use Rattle.entries.specs.Entries.{Entry, Int, Ref, noEnd, isInt, isReference, isOf, matches}
 use Rattle.entries.specs.Fits.{mayGo, wantEntered, wantExited}
 use Rattle.rows.specs.Rows.{Row}
+use Rattle.rows.specs.Typed.{Typed}
 use Rattle.matching.specs.Matching.{popped, pushed, stored, emptied, wants, wantsAt, wantsLoaded, Edge, edge, varsGo, stackGoes}
 use Rattle.rules.specs.Rule.{Rule, rule}
 
@@ -102,3 +103,7 @@ ruleOf P vars row l (Start c) = startRule (P .method c .args) (P .method c .desc
 ruleOf P vars row l (Throw h) = throwRule vars (P .exception) (h .0) (row l) (row (h .0))
 ruleOf P vars row l Return = returnRule vars (row l)
 ruleOf P vars row l Nothing = rule false []
+
+-- the rule of address l of class c
+abbrev pub ruleAt : Typed → ℕ → ℕ → Rule
+ruleAt T c l = ruleOf (T .program) (T .program .method c .vars) (T .row c) l (T .program .method c .instruction l)

@@ -340,19 +340,6 @@ fn start_of(b: &[u8], n: u8, k: Class, r: &[u8], c: u8, p: u32, q: u32) -> Rulin
     start_rule(n, k, r, bundle::part_of(b, started), started.args, c, p, q)
 }
 
-// Where the table says 0, anything else is no instruction, and breaks the rule.
-fn zeroed(field: u16, o: Ruling) -> Ruling
-    ensures { λ x. ⌜ x ≡ refuse (eqb field 0) unmet o ⌝ }
-{
-    if field != 0 {
-        return Ruling {
-            met: false,
-            short: 0,
-        };
-    }
-    o
-}
-
 // The ruling of the instruction x at address l of the method whose record is r. The bundle is asked only for the class that a start names, and for the exception class.
 // The opcode is looked at once.
 pub fn rule_of(b: &[u8], n: u8, k: Class, r: &[u8], l: Addr, x: Code) -> Ruling
@@ -363,24 +350,20 @@ pub fn rule_of(b: &[u8], n: u8, k: Class, r: &[u8], l: Addr, x: Code) -> Ruling
     let h = rows::row_start(k, Addr(x.address));
     let operand = x.operand;
     let address = x.address;
-    let zero = operand as u16;
     let opcode = x.opcode;
     match opcode {
-        1 => zeroed(zero, zeroed(address, inc_rule(n, k, r, p, q))),
-        2 => zeroed(zero, zeroed(address, pop_rule(n, k, r, p, q))),
-        3 => zeroed(zero, zeroed(address, push0_rule(n, k, r, p, q))),
-        4 => zeroed(address, load_rule(n, k, r, operand, p, q)),
-        5 => zeroed(address, store_rule(n, k, r, operand, p, q)),
-        6 => zeroed(zero, if_rule(n, k, r, p, q, h)),
-        7 => zeroed(address, enter_rule(n, k, r, operand, p, q)),
-        8 => zeroed(address, exit_rule(n, k, r, operand, p, q)),
+        1 => inc_rule(n, k, r, p, q),
+        2 => pop_rule(n, k, r, p, q),
+        3 => push0_rule(n, k, r, p, q),
+        4 => load_rule(n, k, r, operand, p, q),
+        5 => store_rule(n, k, r, operand, p, q),
+        6 => if_rule(n, k, r, p, q, h),
+        7 => enter_rule(n, k, r, operand, p, q),
+        8 => exit_rule(n, k, r, operand, p, q),
         9 => new_rule(n, k, r, bundle::exception(b), operand, address, p, q, h),
-        10 => zeroed(address, start_of(b, n, k, r, operand, p, q)),
-        11 => zeroed(
-            zero,
-            throw_rule(n, k, r, bundle::exception(b), address, p, h),
-        ),
-        12 => zeroed(zero, zeroed(address, return_rule(n, k, r, p))),
+        10 => start_of(b, n, k, r, operand, p, q),
+        11 => throw_rule(n, k, r, bundle::exception(b), address, p, h),
+        12 => return_rule(n, k, r, p),
         _ => Ruling {
             met: false,
             short: 0,

@@ -5,21 +5,21 @@ use Prim.Native.Nat.{ℕ}
 use Rattle.verifier.specs.Verdict.{verdictOf}
 use Rattle.state.specs.declared.State.{State}
 use Rattle.machine.specs.Runs.{run}
-use Rattle.soundness.specs.Calls.{Call, Kept, Called, given, Served, CallsServed}
+use Rattle.soundness.specs.Calls.{Call, Answered, Called, given, Served, CallsServed}
 use Rattle.soundness.proofs.Invariant.{Inv}
-use Rattle.soundness.proofs.Demand3.{P, R, inv-after, inv-reached, safe, sound}
+use Rattle.soundness.proofs.Demand3.{P, inv-after, inv-reached, safe, sound}
 
 module _ (b : List ℕ) (e : verdictOf b .number ≡ 0) where
   -- every call keeps the invariant
-  inv-kept : (s : State) → Inv (P b e) (R b e) s → (c : Call) → Kept b s c → Inv (P b e) (R b e) (c .result .state)
+  inv-kept : (s : State) → Inv (P b e) s → (c : Call) → Answered b s c → Inv (P b e) (c .result .state)
   inv-kept s inv c k = rw k (inv-after b e s inv (record { who = c .who; fails = c .fails }))
 
-  inv-given : (s : State) → Inv (P b e) (R b e) s → (cs : List Call) → Called b s cs → Inv (P b e) (R b e) (given s cs)
+  inv-given : (s : State) → Inv (P b e) s → (cs : List Call) → Called b s cs → Inv (P b e) (given s cs)
   unfolding Called given
   inv-given s inv [] k = inv
   inv-given s inv (c ∷ cs) k = inv-given (c .result .state) (inv-kept s inv c (k .0)) cs (k .1)
 
-  served : (s : State) → Inv (P b e) (R b e) s → (c : Call) → Kept b s c → Served b s c
+  served : (s : State) → Inv (P b e) s → (c : Call) → Answered b s c → Served b s c
   served s inv c k = (rw k (sound b e s inv (record { who = c .who; fails = c .fails })), safe b e (c .result .state) (inv-kept s inv c k))
 
 -- COROLLARY

@@ -11,9 +11,9 @@ use lib.IntN.{pos}
 use lib.ListN.{length, replicate, getD-replicate}
 use Rattle.ground.specs.Bounded.{setBelow}
 use Rattle.instructions.specs.Table.{addr}
-use Rattle.bundle.specs.Program.{Program}
 use Rattle.entries.specs.Entries.{Int, Top, Ref, Blank, noEnd, dipOf, endOf, argumentEntry}
 use Rattle.rows.specs.Rows.{Row}
+use Rattle.rows.specs.Typed.{Typed}
 use Rattle.values.specs.declared.Value.the-variants.{Int as num}
 use Rattle.values.specs.declared.Slot.{Slot}
 use Rattle.values.specs.Values.{zeroSlot}
@@ -48,19 +48,19 @@ zeros : (i : ℕ) → i < 16 → valueIn (replicate 16 zeroSlot) (replicate 16 z
 unfolding setBelow
 zeros i b = value-zero 0 i (λ _. zeroSlot) (replicate 16 zeroSlot) (omega arith) b
 
-module _ (P : Program) (R : ℕ → ℕ → Row) (A : Accepted P R) where
-  module _ (n : ℕ) (cls k : ℕ → ℕ) (c : ℕ) (lc : c < P .classes) (vars stack : List Slot) (lv : length vars ≡ 16) (ls : length stack ≡ 16) where
+module _ (P : Typed) (A : Accepted P) where
+  module _ (n : ℕ) (cls k : ℕ → ℕ) (c : ℕ) (lc : c < P .program .classes) (vars stack : List Slot) (lv : length vars ≡ 16) (ls : length stack ≡ 16) where
     abbrev Vars : ℕ
-    Vars = P .method c .vars
+    Vars = P .program .method c .vars
 
     abbrev X : Row
-    X = R c 1
+    X = P .row c 1
 
     -- its variables are arguments of their kinds, and 0
     pub born-live : ((o : ℕ) → o < 32 → k o ≡ 0)
-        → ((i : ℕ) → i < P .method c .args → Matches n cls (argumentEntry (P .method c .descriptor i)) (valueIn vars stack i))
-        → ((i : ℕ) → P .method c .args ≤ i → i < 16 → valueIn vars stack i ≡ num (pos 0))
-        → Live P R n cls k (born c vars stack)
+        → ((i : ℕ) → i < P .program .method c .args → Matches n cls (argumentEntry (P .program .method c .descriptor i)) (valueIn vars stack i))
+        → ((i : ℕ) → P .program .method c .args ≤ i → i < 16 → valueIn vars stack i ≡ num (pos 0))
+        → Live P n cls k (born c vars stack)
     born-live z m zero =
         record {
           alive = refl;
@@ -68,21 +68,21 @@ module _ (P : Program) (R : ℕ → ℕ → Row) (A : Accepted P R) where
           stands = record {
             sized = record { vars = lv; stack = ls };
             depth-exact = sym (A .first-depth c lc);
-            balanced = keep-all n cls (λ s. Blank) (valueIn vars stack) k (entryAt P R c 1) (valueIn vars stack)
-                (λ s l. each s l (decLt s (P .method c .args)) (decLt s Vars) (decLt s 16)) (none-balanced n cls (valueIn vars stack) k z);
+            balanced = keep-all n cls (λ s. Blank) (valueIn vars stack) k (entryAt P c 1) (valueIn vars stack)
+                (λ s l. each s l (decLt s (P .program .method c .args)) (decLt s Vars) (decLt s 16)) (none-balanced n cls (valueIn vars stack) k z);
           };
         }
       where
         v16 : Vars ≤ 16
         v16 = A .formed .vars-16 c lc
 
-        each : (s : ℕ) → s < 32 → Dec (s < P .method c .args) → Dec (s < Vars) → Dec (s < 16)
+        each : (s : ℕ) → s < 32 → Dec (s < P .program .method c .args) → Dec (s < Vars) → Dec (s < 16)
             → weights.Slot n cls Blank (valueIn vars stack s) (slotOf Vars X s) (valueIn vars stack s)
         each s l (yes a) b d =
             rw (slot-var Vars v16 X s (omega (arith, A .formed .args-vars c lc)))
-            (fresh-slot n cls (valueIn vars stack s) (argumentEntry (P .method c .descriptor s)) (X .variable s) (valueIn vars stack s)
-            (argument-pair (P .method c .descriptor s) .0) (argument-pair (P .method c .descriptor s) .1) (m s a)
-            (meets-weaker (argumentEntry (P .method c .descriptor s)) (X .variable s) (compared _ _ (eqb-true _ _ (A .first-argument c s lc a)))))
+            (fresh-slot n cls (valueIn vars stack s) (argumentEntry (P .program .method c .descriptor s)) (X .variable s) (valueIn vars stack s)
+            (argument-pair (P .program .method c .descriptor s) .0) (argument-pair (P .program .method c .descriptor s) .1) (m s a)
+            (meets-weaker (argumentEntry (P .program .method c .descriptor s)) (X .variable s) (compared _ _ (eqb-true _ _ (A .first-argument c s lc a)))))
         each s l (no a) (yes b) d =
             rw (slot-var Vars v16 X s b, A .first-other c s lc (omega arith) b, zero s (omega arith) (omega (arith, v16)))
             (fresh-slot n cls (num (pos 0)) Top Top (num (pos 0)) refl refl tt (same-weaker Top))
@@ -96,7 +96,7 @@ module _ (P : Program) (R : ℕ → ℕ → Row) (A : Accepted P R) where
   no-count i o l k = getD-replicate 256 (i * 32 + o) 0 0 (omega arith)
 
   -- object 0 alone, and no live thread
-  inv-one : Inv P R (grown emptyState (P .exception))
+  inv-one : Inv P (grown emptyState (P .program .exception))
   inv-one =
       record {
         whole = record {
@@ -110,15 +110,15 @@ module _ (P : Program) (R : ℕ → ℕ → Row) (A : Accepted P R) where
           one-holder = λ i j o li lj lo x z. no-count j o lj lo;
         };
         thread = λ i l. rw (getD-replicate 8 i idle idle l)
-            (asleep-standing P R 1 (classOf (grown emptyState (P .exception))) (countOf (replicate 256 0) i) idle refl
+            (asleep-standing P 1 (classOf (grown emptyState (P .program .exception))) (countOf (replicate 256 0) i) idle refl
             (record { sized = record { vars = refl; stack = refl }; free = λ o k. no-count i o l k }));
       }
 
   -- THEOREM: the invariant holds of the fresh machine
-  pub inv-fresh : Inv P R (freshState (P .exception))
+  pub inv-fresh : Inv P (freshState (P .program .exception))
   inv-fresh =
-      rw (grown-is emptyState (P .exception) (omega arith))
-      (thread-moves P R (grown emptyState (P .exception)) 0 (omega arith) (others P R (grown emptyState (P .exception)) inv-one 0) mainThread
-      (live-standing P R 1 (classOf (grown emptyState (P .exception))) (countOf (replicate 256 0) 0) mainThread
-      (born-live 1 (classOf (grown emptyState (P .exception))) (countOf (replicate 256 0) 0) 0 (A .formed .some-class) (replicate 16 zeroSlot) (replicate 16 zeroSlot) refl refl
+      rw (grown-is emptyState (P .program .exception) (omega arith))
+      (thread-moves P (grown emptyState (P .program .exception)) 0 (omega arith) (others P (grown emptyState (P .program .exception)) inv-one 0) mainThread
+      (live-standing P 1 (classOf (grown emptyState (P .program .exception))) (countOf (replicate 256 0) 0) mainThread
+      (born-live 1 (classOf (grown emptyState (P .program .exception))) (countOf (replicate 256 0) 0) 0 (A .formed .some-class) (replicate 16 zeroSlot) (replicate 16 zeroSlot) refl refl
       (λ o k. no-count 0 o (omega arith) k) (λ i l. absurd (omega (arith, A .formed .main-args))) (λ i l b. zeros i b))))

@@ -1,4 +1,4 @@
--- What a rule that holds says: all that it asks, and that along each edge every offer fits what is wanted.
+-- What a rule that ruleHolds says: all that it asks, and that along each edge every offer fits what is wanted.
 use mathlib.Core.List.{List, [], _∷_}
 use mathlib.Core.Path.{_≡_, refl}
 use mathlib.Core.Bool.{Bool, true, false, _&&_}
@@ -13,7 +13,7 @@ use Rattle.entries.specs.Entries.{Entry, dipOf, endOf}
 use Rattle.entries.specs.Fits.{Want, compare}
 use Rattle.matching.specs.Matching.{Edge, meets, isShort, firstShort, variableShort, entryShort, edgeShort}
 use Rattle.matching.proofs.Scans.{not-short, then-zero}
-use Rattle.rules.specs.Rule.{Rule, allMeet, met, shortAlong, shortOf, holds}
+use Rattle.rules.specs.Rule.{Rule, allMeet, met, shortAlong, shortOf, ruleHolds}
 
 -- ---- one comparison
 pub record Meets (x : Entry) (w : Want) : Type 0 where
@@ -64,8 +64,8 @@ all-fit vars (e ∷ es) m h =
     let z = then-zero (edgeShort vars e) (shortAlong vars es) h in
     (fits-edge vars e (and-fst (meets e) (allMeet es) m) (z .0), all-fit vars es (and-snd (meets e) (allMeet es) m) (z .1))
 
-pub held : (vars : ℕ) (r : Rule) → holds vars r ≡ true → (r .asks ≡ true) × AllFit vars (r .edges)
-unfolding holds met shortOf
+pub held : (vars : ℕ) (r : Rule) → ruleHolds vars r ≡ true → (r .asks ≡ true) × AllFit vars (r .edges)
+unfolding ruleHolds met shortOf
 held vars r h =
     let a : (r .asks && allMeet (r .edges)) ≡ true = and-fst (r .asks && allMeet (r .edges)) (eqb (shortAlong vars (r .edges)) 0) h in (
       and-fst (r .asks) (allMeet (r .edges)) a,

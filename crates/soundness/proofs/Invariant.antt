@@ -1,4 +1,4 @@
--- The invariant of the whole machine that later theorems cite: `Inv`. P is the program, R its rows by class and address.
+-- The invariant of the whole machine that later theorems cite: `Inv`. P is the typed program.
 use Prim.Native.Nat.{ℕ, _-_, _≤_, _<_}
 use mathlib.Core.Path.{_≡_, refl}
 use mathlib.Core.Logic.{_≢_}
@@ -6,12 +6,12 @@ use mathlib.Core.Bool.{Bool, true, false}
 use native.Mathlib.Omega.{arith}
 use native.Mathlib.Decide.{ℕ-discrete, decLt}
 use lib.ListN.{length, getD}
-use Rattle.bundle.specs.Program.{Program}
+use Rattle.bundle.specs.Program.{Address}
 use Rattle.entries.specs.Entries.{Entry, noEnd, endOf}
-use Rattle.rows.specs.Rows.{Row}
+use Rattle.rows.specs.Typed.{Typed}
 use Rattle.values.specs.Values.{zeroSlot, refers}
 use Rattle.threads.specs.declared.Thread.{Thread}
-use Rattle.threads.specs.Threads.{varOf, entryOf}
+use Rattle.threads.specs.Threads.{varOf, fromTop}
 use Rattle.state.specs.declared.State.{State}
 use Rattle.state.specs.State.{threadAt, countOf, classOf}
 use Rattle.belongs.specs.Belongs.{stateOk}
@@ -22,67 +22,67 @@ use Rattle.soundness.proofs.Balance.{count-bound, far-free, held-slot}
 use Rattle.soundness.proofs.Slots.{slotOf, slot-each}
 use Rattle.soundness.proofs.Values.{Sixteen, valueOf}
 use Rattle.soundness.proofs.Stands.{Stands, variable-kind, entry-kind}
-use Rattle.soundness.proofs.Accepted.{Address, Accepted}
+use Rattle.soundness.proofs.Accepted.{Accepted}
 
 -- the entry of slot s at the address l of class c
-abbrev pub entryAt : Program → (ℕ → ℕ → Row) → ℕ → ℕ → ℕ → Entry
-entryAt P R c l s = slotOf (P .method c .vars) (R c l) s
+abbrev pub entryAt : Typed → ℕ → ℕ → ℕ → Entry
+entryAt P c l s = slotOf (P .program .method c .vars) (P .row c l) s
 
 -- a live thread, with the counts k, among n objects of the classes cls: its depth is its row's, and its row's pairs are in balance with its counts
-pub record Live (P : Program) (R : ℕ → ℕ → Row) (n : ℕ) (cls k : ℕ → ℕ) (t : Thread) : Type 0 where
+pub record Live (P : Typed) (n : ℕ) (cls k : ℕ → ℕ) (t : Thread) : Type 0 where
   pub alive : t .live ≡ true
-  pub address : Address P (t .class) (t .at .0)
-  pub stands : Stands (P .method (t .class) .vars) n cls k (R (t .class) (t .at .0)) t
+  pub address : Address (P .program) (t .class) (t .at .0)
+  pub stands : Stands (P .program .method (t .class) .vars) n cls k (P .row (t .class) (t .at .0)) t
 
 -- a thread that isn't live holds nothing
 pub record Asleep (k : ℕ → ℕ) (t : Thread) : Type 0 where
   pub sized : Sixteen t
   pub free : (o : ℕ) → o < 32 → k o ≡ 0
 
-pub record Standing (P : Program) (R : ℕ → ℕ → Row) (n : ℕ) (cls k : ℕ → ℕ) (t : Thread) : Type 0 where
-  pub live : t .live ≡ true → Live P R n cls k t
+pub record Standing (P : Typed) (n : ℕ) (cls k : ℕ → ℕ) (t : Thread) : Type 0 where
+  pub live : t .live ≡ true → Live P n cls k t
   pub asleep : t .live ≡ false → Asleep k t
 
 -- what does not go by thread
-pub record Whole (P : Program) (s : State) : Type 0 where
+pub record Whole (P : Typed) (s : State) : Type 0 where
   pub threads-8 : length (s .threads) ≡ 8
   pub counts-256 : length (s .counts) ≡ 256
   pub classes-32 : length (s .classes) ≡ 32
   pub objects-32 : s .objects ≤ 32
   -- object 0 is there, of the exception class: what a failed new throws
   pub some-object : 1 ≤ s .objects
-  pub first-class : classOf s 0 ≡ P .exception
-  pub object-class : (o : ℕ) → o < s .objects → classOf s o < P .classes
+  pub first-class : classOf s 0 ≡ P .program .exception
+  pub object-class : (o : ℕ) → o < s .objects → classOf s o < P .program .classes
   pub one-holder : (i j o : ℕ) → i < 8 → j < 8 → o < 32 → i ≢ j → 0 < countOf (s .counts) i o → countOf (s .counts) j o ≡ 0
 
-abbrev pub StandingAt : Program → (ℕ → ℕ → Row) → State → ℕ → Type 0
-StandingAt P R s i = Standing P R (s .objects) (classOf s) (countOf (s .counts) i) (threadAt s i)
+abbrev pub StandingAt : Typed → State → ℕ → Type 0
+StandingAt P s i = Standing P (s .objects) (classOf s) (countOf (s .counts) i) (threadAt s i)
 
-pub record Inv (P : Program) (R : ℕ → ℕ → Row) (s : State) : Type 0 where
+pub record Inv (P : Typed) (s : State) : Type 0 where
   pub whole : Whole P s
-  pub thread : (i : ℕ) → i < 8 → StandingAt P R s i
+  pub thread : (i : ℕ) → i < 8 → StandingAt P s i
 
 -- ---- what a live thread's invariant says
-module _ (P : Program) (R : ℕ → ℕ → Row) (A : Accepted P R) (n : ℕ) (cls k : ℕ → ℕ) (t : Thread) (h : Live P R n cls k t) where
-  pub vars-16 : P .method (t .class) .vars ≤ 16
+module _ (P : Typed) (A : Accepted P) (n : ℕ) (cls k : ℕ → ℕ) (t : Thread) (h : Live P n cls k t) where
+  pub vars-16 : P .program .method (t .class) .vars ≤ 16
   vars-16 = A .formed .vars-16 (t .class) (h .address .class-known)
 
-  pub limit-16 : P .method (t .class) .limit ≤ 16
+  pub limit-16 : P .program .method (t .class) .limit ≤ 16
   limit-16 = A .formed .limit-16 (t .class) (h .address .class-known)
 
-  pub depth-limit : t .depth ≤ P .method (t .class) .limit
+  pub depth-limit : t .depth ≤ P .program .method (t .class) .limit
   depth-limit = omega (arith, h .stands .depth-exact, A .depth-limit (t .class) (t .at .0) (h .address))
 
   pub bound-2016 : (o : ℕ) → o < 32 → k o ≤ 2016
   bound-2016 =
-      count-bound n cls (entryAt P R (t .class) (t .at .0)) (valueOf t) k (h .stands .balanced)
-      (λ s l. slot-each (P .method (t .class) .vars) vars-16 (R (t .class) (t .at .0)) (λ (e : Entry). 1 ≤ endOf e) (omega arith)
+      count-bound n cls (entryAt P (t .class) (t .at .0)) (valueOf t) k (h .stands .balanced)
+      (λ s l. slot-each (P .program .method (t .class) .vars) vars-16 (P .row (t .class) (t .at .0)) (λ (e : Entry). 1 ≤ endOf e) (omega arith)
       (λ i _. A .variable-end (t .class) (t .at .0) i) (λ j _. A .stack-end (t .class) (t .at .0) j) s)
 
   pub off-object : (o : ℕ) → o < 32 → n ≤ o → k o ≡ 0
-  off-object = far-free n cls (entryAt P R (t .class) (t .at .0)) (valueOf t) k (h .stands .balanced)
+  off-object = far-free n cls (entryAt P (t .class) (t .at .0)) (valueOf t) k (h .stands .balanced)
 
-  pub placed : Placed P n t
+  pub placed : Placed (P .program) n t
   placed =
       record {
         class-known = h .address .class-known;
@@ -90,7 +90,7 @@ module _ (P : Program) (R : ℕ → ℕ → Row) (A : Accepted P R) (n : ℕ) (c
         address-last = h .address .last;
         depth-limit = depth-limit;
         variable-refers = λ v l.
-            type-refers n cls (R (t .class) (t .at .0) .variable v) (varOf t v .value) (A .variable-type (t .class) (t .at .0) v (h .address) l)
+            type-refers n cls (P .row (t .class) (t .at .0) .variable v) (varOf t v .value) (A .variable-type (t .class) (t .at .0) v (h .address) l)
             (variable-kind _ vars-16 n cls k _ t (omega (arith, depth-limit, limit-16)) (h .stands) v l);
         stack-refers = λ p l. stk p (t .depth - 1 - p) (omega arith) (omega arith);
       }
@@ -98,22 +98,22 @@ module _ (P : Program) (R : ℕ → ℕ → Row) (A : Accepted P R) (n : ℕ) (c
       stk : (p j : ℕ) → t .depth - 1 - j ≡ p → j < t .depth → refers n (getD (t .stack) p zeroSlot) ≡ true
       stk p j q l =
           rw q
-          at (type-refers n cls (R (t .class) (t .at .0) .stack j) (entryOf t j .value) (A .stack-type (t .class) (t .at .0) j (h .address) (omega (arith, h .stands .depth-exact)))
+          at (type-refers n cls (P .row (t .class) (t .at .0) .stack j) (fromTop t j .value) (A .stack-type (t .class) (t .at .0) j (h .address) (omega (arith, h .stands .depth-exact)))
           (entry-kind _ vars-16 n cls k _ t (omega (arith, depth-limit, limit-16)) (h .stands) j l))
 
 -- ---- the invariant rules out answer 18, and bounds every count
-module _ (P : Program) (R : ℕ → ℕ → Row) (A : Accepted P R) (s : State) (inv : Inv P R s) where
+module _ (P : Typed) (A : Accepted P) (s : State) (inv : Inv P s) where
   pub bounded : (i o : ℕ) → i < 8 → o < 32 → countOf (s .counts) i o ≤ 2016
   bounded i o l k = go (threadAt s i .live) refl
     where
       go : (b : Bool) → threadAt s i .live ≡ b → countOf (s .counts) i o ≤ 2016
-      go true q = bound-2016 P R A (s .objects) (classOf s) (countOf (s .counts) i) (threadAt s i) (inv .thread i l .live q) o k
+      go true q = bound-2016 P A (s .objects) (classOf s) (countOf (s .counts) i) (threadAt s i) (inv .thread i l .live q) o k
       go false q = omega (arith, inv .thread i l .asleep q .free o k)
 
-  pub belongs : Belongs P s
+  pub belongs : Belongs (P .program) s
   belongs =
       record {
-        live-placed = λ i l a. placed P R A (s .objects) (classOf s) (countOf (s .counts) i) (threadAt s i) (inv .thread i l .live a);
+        live-placed = λ i l a. placed P A (s .objects) (classOf s) (countOf (s .counts) i) (threadAt s i) (inv .thread i l .live a);
         some-object = inv .whole .some-object;
         first-class = inv .whole .first-class;
         objects-32 = inv .whole .objects-32;
@@ -127,7 +127,7 @@ module _ (P : Program) (R : ℕ → ℕ → Row) (A : Accepted P R) (s : State) 
       on i o l k q n (no g) =
           absurd (omega (
             arith,
-            off-object P R A (s .objects) (classOf s) (countOf (s .counts) i) (threadAt s i) (inv .thread i l .live q) o k (omega arith),
+            off-object P A (s .objects) (classOf s) (countOf (s .counts) i) (threadAt s i) (inv .thread i l .live q) o k (omega arith),
           ))
 
       counted : (i o : ℕ) → i < 8 → o < 32 → (b : Bool) → threadAt s i .live ≡ b → Counted (s .objects) (threadAt s i .live) o (countOf (s .counts) i o)
@@ -145,12 +145,12 @@ module _ (P : Program) (R : ℕ → ℕ → Row) (A : Accepted P R) (s : State) 
       sole i j o a b l d f (yes q) = q
       sole i j o a b l d f (no q) = absurd (omega (arith, inv .whole .one-holder i j o a b l q d))
 
-  pub state-ok : stateOk P s ≡ true
-  state-ok = belongs-intro P s belongs
+  pub state-ok : stateOk (P .program) s ≡ true
+  state-ok = belongs-intro (P .program) s belongs
 
 -- COROLLARY, for a lock order: a live thread that holds o has a slot with the value o, whose entry has a negative end
-pub holder : (P : Program) (R : ℕ → ℕ → Row) (s : State) → Inv P R s → (i o : ℕ) → i < 8 → o < 32 → threadAt s i .live ≡ true → 0 < countOf (s .counts) i o
-    → (p : ℕ) × (p < 32) × (names o (valueOf (threadAt s i) p) ≡ true) × (endOf (entryAt P R (threadAt s i .class) (threadAt s i .at .0) p) < noEnd)
-holder P R s inv i o l k a h =
-    held-slot (s .objects) (classOf s) (entryAt P R (threadAt s i .class) (threadAt s i .at .0)) (valueOf (threadAt s i)) (countOf (s .counts) i)
+pub holder : (P : Typed) (s : State) → Inv P s → (i o : ℕ) → i < 8 → o < 32 → threadAt s i .live ≡ true → 0 < countOf (s .counts) i o
+    → (p : ℕ) × (p < 32) × (names o (valueOf (threadAt s i) p) ≡ true) × (endOf (entryAt P (threadAt s i .class) (threadAt s i .at .0) p) < noEnd)
+holder P s inv i o l k a h =
+    held-slot (s .objects) (classOf s) (entryAt P (threadAt s i .class) (threadAt s i .at .0)) (valueOf (threadAt s i)) (countOf (s .counts) i)
     (inv .thread i l .live a .stands .balanced) o k h

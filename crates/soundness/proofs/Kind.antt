@@ -14,7 +14,7 @@ use Rattle.values.specs.declared.Slot.{Slot}
 use Rattle.values.specs.declared.Value.{Value}
 use Rattle.values.specs.declared.Value.the-variants.{Int as num, Ref as obj, Null as null}
 use Rattle.values.specs.Values.{isIntValue, isNullValue, isRefValue, objectOfValue, refersValue, incValue}
-use Rattle.machine.specs.Instructions.{isObject}
+use Rattle.machine.specs.Faults.{isObject}
 
 -- `Blank` is a place that is not in use: any value may be left there
 abbrev pub Matches : ℕ → (ℕ → ℕ) → Entry → Value → Type 0

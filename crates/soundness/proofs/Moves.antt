@@ -8,33 +8,31 @@ use native.Mathlib.Decide.{ℕ-discrete, decLt}
 use lib.ListN.{getD, set, length-set}
 use lib.Seq.{getD-set-same, getD-set-other}
 use borrow.Author.Tests.{lt-ltb}
-use Rattle.ground.specs.Chain.{refuse}
 use Rattle.ground.proofs.Bools.{never}
-use Rattle.bundle.specs.Program.{Program}
-use Rattle.rows.specs.Rows.{Row}
+use Rattle.rows.specs.Typed.{Typed}
 use Rattle.threads.specs.declared.Thread.{Thread}
 use Rattle.threads.specs.Threads.{idle}
 use Rattle.state.specs.declared.State.{State}
 use Rattle.state.specs.State.{threadAt, countOf, classOf, withThread, withCount, withObject}
 use Rattle.machine.specs.declared.Stepped.{Stepped}
-use Rattle.machine.specs.Answers.{refused, unless}
+use Rattle.machine.specs.Answers.{refused}
 use Rattle.machine.proofs.Changes.{grown}
 use Rattle.soundness.proofs.Balance.{balanced-more}
 use Rattle.soundness.proofs.Values.{valueOf}
 use Rattle.soundness.proofs.Invariant.{entryAt, Live, Asleep, Standing, Whole, StandingAt, Inv}
 
 -- the invariant, but for thread i
-pub record Others (P : Program) (R : ℕ → ℕ → Row) (s : State) (i : ℕ) : Type 0 where
+pub record Others (P : Typed) (s : State) (i : ℕ) : Type 0 where
   pub whole : Whole P s
-  pub thread : (j : ℕ) → j < 8 → j ≢ i → StandingAt P R s j
+  pub thread : (j : ℕ) → j < 8 → j ≢ i → StandingAt P s j
 
-module _ (P : Program) (R : ℕ → ℕ → Row) where
-  pub others : (s : State) → Inv P R s → (i : ℕ) → Others P R s i
+module _ (P : Typed) where
+  pub others : (s : State) → Inv P s → (i : ℕ) → Others P s i
   others s inv i = record { whole = inv .whole; thread = λ j l n. inv .thread j l }
 
   -- there may be more objects, and counts are told otherwise
   pub standing-more : (n : ℕ) (cls k : ℕ → ℕ) (n′ : ℕ) (cls′ k′ : ℕ → ℕ) (t : Thread) → n ≤ n′ → ((r : ℕ) → r < n → cls′ r ≡ cls r)
-      → ((o : ℕ) → o < 32 → k′ o ≡ k o) → Standing P R n cls k t → Standing P R n′ cls′ k′ t
+      → ((o : ℕ) → o < 32 → k′ o ≡ k o) → Standing P n cls k t → Standing P n′ cls′ k′ t
   standing-more n cls k n′ cls′ k′ t ln lc qk h =
       record {
         live = λ a. record {
@@ -43,21 +41,21 @@ module _ (P : Program) (R : ℕ → ℕ → Row) where
           stands = record {
             sized = h .live a .stands .sized;
             depth-exact = h .live a .stands .depth-exact;
-            balanced = balanced-more n cls (entryAt P R (t .class) (t .at .0)) (valueOf t) k (h .live a .stands .balanced) n′ cls′ k′ ln lc qk;
+            balanced = balanced-more n cls (entryAt P (t .class) (t .at .0)) (valueOf t) k (h .live a .stands .balanced) n′ cls′ k′ ln lc qk;
           };
         };
         asleep = λ a. record { sized = h .asleep a .sized; free = λ o l. qk o l ∙ h .asleep a .free o l };
       }
 
-  pub live-standing : (n : ℕ) (cls k : ℕ → ℕ) (t : Thread) → Live P R n cls k t → Standing P R n cls k t
+  pub live-standing : (n : ℕ) (cls k : ℕ → ℕ) (t : Thread) → Live P n cls k t → Standing P n cls k t
   live-standing n cls k t h = record { live = λ _. h; asleep = λ b. never (h .alive) b }
 
-  pub asleep-standing : (n : ℕ) (cls k : ℕ → ℕ) (t : Thread) → t .live ≡ false → Asleep k t → Standing P R n cls k t
+  pub asleep-standing : (n : ℕ) (cls k : ℕ → ℕ) (t : Thread) → t .live ≡ false → Asleep k t → Standing P n cls k t
   asleep-standing n cls k t a h = record { live = λ b. never b a; asleep = λ _. h }
 
-  module _ (s : State) (i : ℕ) (li : i < 8) (h : Others P R s i) where
+  module _ (s : State) (i : ℕ) (li : i < 8) (h : Others P s i) where
     -- thread i becomes u
-    pub thread-moves : (u : Thread) → Standing P R (s .objects) (classOf s) (countOf (s .counts) i) u → Inv P R (withThread s i u)
+    pub thread-moves : (u : Thread) → Standing P (s .objects) (classOf s) (countOf (s .counts) i) u → Inv P (withThread s i u)
     thread-moves u st =
         record {
           whole = record {
@@ -73,7 +71,7 @@ module _ (P : Program) (R : ℕ → ℕ → Row) where
           thread = λ j l. go j l (ℕ-discrete j i);
         }
       where
-        go : (j : ℕ) → j < 8 → Dec (j ≡ i) → Standing P R (s .objects) (classOf s) (countOf (s .counts) j) (getD (set (s .threads) i u) j idle)
+        go : (j : ℕ) → j < 8 → Dec (j ≡ i) → Standing P (s .objects) (classOf s) (countOf (s .counts) j) (getD (set (s .threads) i u) j idle)
         go j l (yes q) = rw (q, getD-set-same (s .threads) i u idle (omega (arith, h .whole .threads-8))) st
         go j l (no q) = rw (getD-set-other (s .threads) i j u idle q) (h .thread j l q)
 
@@ -85,7 +83,7 @@ module _ (P : Program) (R : ℕ → ℕ → Row) where
     count-same o n lo = getD-set-same (s .counts) (i * 32 + o) n 0 (omega (arith, h .whole .counts-256))
 
     -- thread i's count of o becomes n
-    pub count-moves : (o n : ℕ) → o < 32 → (0 < n → (j : ℕ) → j < 8 → j ≢ i → countOf (s .counts) j o ≡ 0) → Others P R (withCount s i o n) i
+    pub count-moves : (o n : ℕ) → o < 32 → (0 < n → (j : ℕ) → j < 8 → j ≢ i → countOf (s .counts) j o ≡ 0) → Others P (withCount s i o n) i
     count-moves o n lo f =
         record {
           whole = record {
@@ -120,7 +118,7 @@ module _ (P : Program) (R : ℕ → ℕ → Row) where
             count-other k o p n lo lp (λ q. absurd (g q)) ∙ h .whole .one-holder j k p lj lk lp x (rw (count-other j o p n lo lp (λ q. absurd (e q))) at z)
 
     -- one object more
-    pub object-grows : (c : ℕ) → c < P .classes → s .objects < 32 → Others P R (grown s c) i
+    pub object-grows : (c : ℕ) → c < P .program .classes → s .objects < 32 → Others P (grown s c) i
     object-grows c lc lo =
         record {
           whole = record {
@@ -137,7 +135,7 @@ module _ (P : Program) (R : ℕ → ℕ → Row) where
               (λ r k. getD-set-other (s .classes) (s .objects) r c 0 (omega arith)) (λ o _. refl) (h .thread j l n);
         }
       where
-        class : (o : ℕ) → o < s .objects + 1 → Dec (o ≡ s .objects) → classOf (grown s c) o < P .classes
+        class : (o : ℕ) → o < s .objects + 1 → Dec (o ≡ s .objects) → classOf (grown s c) o < P .program .classes
         class o l (yes q) = rw (q, getD-set-same (s .classes) (s .objects) c 0 (omega (arith, h .whole .classes-32))) lc
         class o l (no q) = rw (getD-set-other (s .classes) (s .objects) o c 0 q) (h .whole .object-class o (omega arith))
 
@@ -146,44 +144,39 @@ unfolding withObject
 grown-is s c l = rw (lt-ltb (s .objects) 32 l)
 
 -- ---- a good step of thread i from s: no fault, the invariant after it, and nothing held by a thread that ends
-pub record Good (P : Program) (R : ℕ → ℕ → Row) (s : State) (i : ℕ) (r : Stepped) : Type 0 where
+pub record Good (P : Typed) (s : State) (i : ℕ) (r : Stepped) : Type 0 where
   pub quiet : r .answer ≤ 5
-  pub inv : Inv P R (r .state)
+  pub inv : Inv P (r .state)
   pub ends : (r .answer ≡ 1) ⊎ (r .answer ≡ 2) → (o : ℕ) → o < 32 → (countOf (s .counts) i o ≡ 0) × (countOf (r .state .counts) i o ≡ 0)
 
-module _ (P : Program) (R : ℕ → ℕ → Row) (s : State) (i : ℕ) where
+module _ (P : Typed) (s : State) (i : ℕ) where
   -- the thread goes on, or waits, or cannot start another: no thread ends
-  goes : (n : ℕ) (u : State) → n ≤ 5 → n ≢ 1 → n ≢ 2 → Inv P R u → Good P R s i (record { answer = n; state = u })
+  goes : (n : ℕ) (u : State) → n ≤ 5 → n ≢ 1 → n ≢ 2 → Inv P u → Good P s i (record { answer = n; state = u })
   goes n u l a b h = record { quiet = l; inv = h; ends = none }
     where
       none : (n ≡ 1) ⊎ (n ≡ 2) → (o : ℕ) → o < 32 → (countOf (s .counts) i o ≡ 0) × (countOf (u .counts) i o ≡ 0)
       none (inl q) = absurd (a q)
       none (inr q) = absurd (b q)
 
-  pub went : (u : State) → Inv P R u → Good P R s i (record { answer = 0; state = u })
+  pub went : (u : State) → Inv P u → Good P s i (record { answer = 0; state = u })
   went u h = goes 0 u (omega arith) (omega arith) (omega arith) h
 
-  pub given : (n : ℕ) → 3 ≤ n → n ≤ 5 → Inv P R s → Good P R s i (refused n s)
+  pub given : (n : ℕ) → 3 ≤ n → n ≤ 5 → Inv P s → Good P s i (refused n s)
   given n l k h = goes n s k (omega arith) (omega arith) h
 
-  -- a test that holds
-  pub passes : (ok : Bool) (n : ℕ) (rest : Stepped) → ok ≡ true → Good P R s i rest → Good P R s i (unless ok n s rest)
-  unfolding refuse
-  passes ok n rest e g = rw e g
-
-  -- a test that may fail, with an answer that is no fault
-  pub either : (ok : Bool) (n : ℕ) (rest : Stepped) → 3 ≤ n → n ≤ 5 → Inv P R s → (ok ≡ true → Good P R s i rest) → Good P R s i (unless ok n s rest)
-  unfolding refuse
-  either true n rest l k h g = g refl
-  either false n rest l k h g = given n l k h
-
-  pub branches : (b : Bool) (x y : Stepped) → (b ≡ true → Good P R s i x) → (b ≡ false → Good P R s i y) → Good P R s i (cond b x y)
-  branches true x y g h = g refl
-  branches false x y g h = h refl
-
   -- the thread goes on as u, and nothing else changes
-  pub went-as : (u : Thread) → i < 8 → Inv P R s → Live P R (s .objects) (classOf s) (countOf (s .counts) i) u
-      → Good P R s i (record { answer = 0; state = withThread s i u })
+  pub went-as : (u : Thread) → i < 8 → Inv P s → Live P (s .objects) (classOf s) (countOf (s .counts) i) u
+      → Good P s i (record { answer = 0; state = withThread s i u })
   went-as u li inv h =
       went (withThread s i u)
-      (thread-moves P R s i li (others P R s inv i) u (live-standing P R (s .objects) (classOf s) (countOf (s .counts) i) u h))
+      (thread-moves P s i li (others P s inv i) u (live-standing P (s .objects) (classOf s) (countOf (s .counts) i) u h))
+
+-- ---- an instruction of thread i under its rule: it draws no fault, and where it doesn't wait, its move is a good step
+pub record Fine (P : Typed) (s : State) (i fault wait : ℕ) (move : Stepped) : Type 0 where
+  pub no-fault : fault ≡ 0
+  pub good : wait ≡ 0 → Good P s i move
+
+pub branches : (P : Typed) (s : State) (i : ℕ) (b : Bool) (f g : ℕ) (x y : Stepped)
+    → (b ≡ true → Fine P s i f 0 x) → (b ≡ false → Fine P s i g 0 y) → Fine P s i (cond b f g) 0 (cond b x y)
+branches P s i true f g x y p q = p refl
+branches P s i false f g x y p q = q refl

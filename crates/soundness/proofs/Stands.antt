@@ -22,7 +22,7 @@ use Rattle.values.specs.declared.Value.{Value}
 use Rattle.values.specs.Values.{zeroSlot, incSlot, objectOf}
 use Rattle.values.specs.Values as values
 use Rattle.threads.specs.declared.Thread.{Thread}
-use Rattle.threads.specs.Threads.{entryOf, topOf, varOf, topped, pushed, popped, stored}
+use Rattle.threads.specs.Threads.{fromTop, topOf, varOf, topped, pushed, popped, stored}
 use Rattle.soundness.proofs.Held.{Meets, Fits, compared}
 use Rattle.soundness.proofs.Kind.{Matches, takes-kind, int-inc, ref-value}
 use Rattle.soundness.proofs.Weights.{names, same-weaker, int-goes, kept-slot, gone-slot, fresh-slot, light-slot}
@@ -56,10 +56,10 @@ module _ (vars : ℕ) (v16 : vars ≤ 16) (n : ℕ) (cls k : ℕ → ℕ) (x : R
   pub variable-kind : (v : ℕ) → v < vars → Matches n cls (x .variable v) (varOf t v .value)
   variable-kind v l = rw (slot-var vars v16 x v l, value-var t v (omega arith)) at (h .balanced .kinds v (omega arith))
 
-  pub entry-kind : (j : ℕ) → j < t .depth → Matches n cls (x .stack j) (entryOf t j .value)
+  pub entry-kind : (j : ℕ) → j < t .depth → Matches n cls (x .stack j) (fromTop t j .value)
   entry-kind j l = go (15 + t .depth - j) (omega arith)
     where
-      go : (s : ℕ) → s + j + 1 ≡ 16 + t .depth → Matches n cls (x .stack j) (entryOf t j .value)
+      go : (s : ℕ) → s + j + 1 ≡ 16 + t .depth → Matches n cls (x .stack j) (fromTop t j .value)
       go s q =
           rw (slot-stack vars v16 x s j (omega arith) (omega (arith, h .depth-exact)), value-entry t s j (omega arith) q)
           at (h .balanced .kinds s (omega arith))

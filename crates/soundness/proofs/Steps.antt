@@ -1,47 +1,40 @@
--- Every instruction of a live thread, under its row of the table and its rule, is a good step. A new instruction has its line here.
+-- Every instruction of a live thread, under its line of the table and its rule, is fine: it draws no fault, and its move is a good step. A new instruction has its line here.
 use Prim.Native.Nat.{ℕ, _+_, _≤_, _<_}
 use mathlib.Core.Path.{_≡_, refl}
-use mathlib.Core.List.{[]}
-use mathlib.Core.Bool.{Bool, true, false, not, _||_}
+use mathlib.Core.Logic.{_≢_}
+use mathlib.Core.Bool.{Bool, true, false}
 use native.Mathlib.Omega.{arith}
-use lib.Dec.{eqb}
-use borrow.Author.Tests.{ltb-true, leb-true, eqb-false}
-use Rattle.ground.proofs.Bools.{and-fst, and-snd}
+use lib.Dec.{ltb}
+use Rattle.ground.specs.Chain.{refuse}
 use Rattle.instructions.specs.declared.Var.{Var}
 use Rattle.instructions.specs.declared.Instruction.{Instruction}
 use Rattle.instructions.specs.declared.Instruction.the-variants.{Inc, Pop, Push0, Load, Store, If, Enter, Exit, New, Start, Throw, Return, Nothing}
-use Rattle.instructions.specs.Table.{targetOk, endsCode, lastOk, instructionOk}
-use Rattle.bundle.specs.Program.{Program}
-use Rattle.rows.specs.Rows.{Row}
-use Rattle.rules.specs.Rule.{rule, holds}
+use Rattle.instructions.proofs.Table.{InstructionFits}
+use Rattle.bundle.specs.Program.{Address}
+use Rattle.rows.specs.Typed.{Typed}
+use Rattle.rules.specs.Rule.{ruleHolds}
 use Rattle.rules.specs.Rules.{ruleOf}
 use Rattle.values.specs.Values.{objectOf}
 use Rattle.threads.specs.declared.Thread.{Thread}
 use Rattle.threads.specs.Threads.{varOf}
 use Rattle.state.specs.declared.State.{State}
-use Rattle.state.specs.State.{threadAt, countOf}
-use Rattle.machine.specs.Machine.{execOf, runOf}
-use Rattle.soundness.proofs.Held.{held}
-use Rattle.soundness.proofs.Kind.{nope}
-use Rattle.soundness.proofs.Accepted.{Address, Accepted}
+use Rattle.state.specs.State.{threadAt, countOf, othersFree, lowestFree}
+use Rattle.machine.specs.Answers.{refused, test}
+use Rattle.machine.specs.Faults.{lockOf, faultOf}
+use Rattle.machine.specs.Waits.{waitOf}
+use Rattle.machine.specs.Moves.{moveOf}
+use Rattle.machine.specs.Machine.{runOf}
+use Rattle.machine.proofs.Refusals.{draws}
+use Rattle.soundness.proofs.Accepted.{Accepted}
 use Rattle.soundness.proofs.Invariant.{Inv}
-use Rattle.soundness.proofs.Moves.{Good}
-use Rattle.soundness.proofs.Stack.{inc-good, pop-good, push0-good, load-good, store-good, if-good}
-use Rattle.soundness.proofs.Locks.{enter-good, exit-good, leaves-held}
-use Rattle.soundness.proofs.Ends.{athrow-good, return-good}
-use Rattle.soundness.proofs.Makes.{new-good}
-use Rattle.soundness.proofs.Starts.{start-good}
+use Rattle.soundness.proofs.Moves.{Good, given, Fine}
+use Rattle.soundness.proofs.Stack.{inc-fine, pop-fine, push0-fine, load-fine, store-fine, if-fine}
+use Rattle.soundness.proofs.Locks.{enter-fine, exit-fine, leaves-held}
+use Rattle.soundness.proofs.Ends.{athrow-fine, return-fine}
+use Rattle.soundness.proofs.Makes.{new-fine}
+use Rattle.soundness.proofs.Starts.{start-fine}
 
--- address k holds athrow or return: any other instruction has a next address
-next-address : (code l : ℕ) (x : Instruction) → lastOk code l x ≡ true → endsCode x ≡ false → l ≤ code → l + 1 ≤ code
-unfolding lastOk
-next-address code l x h e k = go (eqb l code) refl (rw e at h)
-  where
-    go : (b : Bool) → eqb l code ≡ b → (not b || false) ≡ true → l + 1 ≤ code
-    go true q f = nope f
-    go false q f = omega (arith, eqb-false l code q)
-
-module _ (P : Program) (R : ℕ → ℕ → Row) (A : Accepted P R) (s : State) (inv : Inv P R s) (i : ℕ) (li : i < 8) (lv : threadAt s i .live ≡ true) where
+module _ (P : Typed) (A : Accepted P) (s : State) (inv : Inv P s) (i : ℕ) (li : i < 8) (lv : threadAt s i .live ≡ true) where
   abbrev T : Thread
   T = threadAt s i
 
@@ -52,51 +45,80 @@ module _ (P : Program) (R : ℕ → ℕ → Row) (A : Accepted P R) (s : State) 
   L = threadAt s i .at .0
 
   abbrev vars : ℕ
-  vars = P .method (threadAt s i .class) .vars
+  vars = P .program .method (threadAt s i .class) .vars
 
   abbrev code : ℕ
-  code = P .method (threadAt s i .class) .code
+  code = P .program .method (threadAt s i .class) .code
 
-  here : Address P C L
+  here : Address (P .program) C L
   here = inv .thread i li .live lv .address
 
-  next : (x : Instruction) → endsCode x ≡ false → instructionOk (P .classes) vars code L x ≡ true → Address P C (L + 1)
-  unfolding instructionOk
-  next x e h =
-      record { class-known = here .class-known; first = omega arith; last = next-address code L x (search and-snd) e (here .last) }
+  next : L < code → Address (P .program) C (L + 1)
+  next h = record { class-known = here .class-known; first = omega arith; last = omega arith }
 
-  exec-good : (fails : Bool) (x : Instruction) → instructionOk (P .classes) vars code L x ≡ true → holds vars (ruleOf P vars (R C) L x) ≡ true
-      → Good P R s i (execOf P s i T (P .method C) fails x)
-  unfolding instructionOk targetOk
-  exec-good fails Inc h r = inc-good P R A s inv i li lv (next Inc refl h) r
-  exec-good fails Pop h r = pop-good P R A s inv i li lv (next Pop refl h) r
-  exec-good fails Push0 h r = push0-good P R A s inv i li lv (next Push0 refl h) r
-  exec-good fails (Load v) h r = load-good P R A s inv i li lv v (ltb-true _ _ (search and-fst)) (next (Load v) refl h) r
-  exec-good fails (Store v) h r = store-good P R A s inv i li lv v (ltb-true _ _ (search and-fst)) (next (Store v) refl h) r
-  exec-good fails (If a) h r =
-      if-good P R A s inv i li lv a (next (If a) refl h)
-      (record { class-known = here .class-known; first = leb-true _ _ (search (and-fst, and-snd)); last = leb-true _ _ (search (and-fst, and-snd)) }) r
-  exec-good fails (Enter v) h r = enter-good P R A s inv i li lv v (ltb-true _ _ (search and-fst)) (next (Enter v) refl h) r
-  exec-good fails (Exit v) h r = exit-good P R A s inv i li lv v (ltb-true _ _ (search and-fst)) (next (Exit v) refl h) r
-  exec-good fails (New c a) h r =
-      new-good P R A s inv i li lv c a fails (ltb-true _ _ (search (and-fst, and-snd))) (leb-true _ _ (search (and-fst, and-snd))) (next (New c a) refl h) r
-  exec-good fails (Start c) h r = start-good P R A s inv i li lv c (ltb-true _ _ (search and-fst)) (next (Start c) refl h) r
-  exec-good fails (Throw a) h r = athrow-good P R A s inv i li lv a (leb-true _ _ (search and-fst)) r
-  exec-good fails Return h r = return-good P R A s inv i li lv r
-  exec-good fails Nothing h r = nope (held vars (rule false []) r .0)
+  exec-fine : (fails : Bool) (x : Instruction) → InstructionFits (P .program .classes) vars code L x → ruleHolds vars (ruleOf (P .program) vars (P .row C) L x) ≡ true
+      → Fine P s i (faultOf (P .program) s i T (P .program .method C) fails x) (waitOf s i T x) (moveOf (P .program) s i T (P .program .method C) fails x)
+  exec-fine fails Inc h r = inc-fine P A s inv i li lv (next h) r
+  exec-fine fails Pop h r = pop-fine P A s inv i li lv (next h) r
+  exec-fine fails Push0 h r = push0-fine P A s inv i li lv (next h) r
+  exec-fine fails (Load v) h r = load-fine P A s inv i li lv v (h .0) (next (h .1)) r
+  exec-fine fails (Store v) h r = store-fine P A s inv i li lv v (h .0) (next (h .1)) r
+  exec-fine fails (If a) h r =
+      if-fine P A s inv i li lv a (next (h .1)) (record { class-known = here .class-known; first = h .0 .0; last = h .0 .1 }) r
+  exec-fine fails (Enter v) h r = enter-fine P A s inv i li lv v (h .0) (next (h .1)) r
+  exec-fine fails (Exit v) h r = exit-fine P A s inv i li lv v (h .0) (next (h .1)) r
+  exec-fine fails (New c a) h r = new-fine P A s inv i li lv c a fails (h .0) (h .1) (next (h .2)) r
+  exec-fine fails (Start c) h r = start-fine P A s inv i li lv c (h .0) (next (h .1)) r
+  exec-fine fails (Throw a) h r = athrow-fine P A s inv i li lv a h r
+  exec-fine fails Return h r = return-fine P A s inv i li lv r
+  exec-fine fails Nothing h r = absurd h
 
-  table-here : instructionOk (P .classes) vars code L (P .method C .instruction L) ≡ true
+  table-here : InstructionFits (P .program .classes) vars code L (P .program .method C .instruction L)
   table-here = A .formed .table C L (here .class-known) (here .first) (here .last)
 
-  -- THEOREM: every step of a live thread is good
-  pub run-good : (fails : Bool) → Good P R s i (runOf P s i T fails)
-  unfolding runOf
-  run-good fails = exec-good fails (P .method C .instruction L) table-here (A .rule C L here)
+  abbrev X : Instruction
+  X = P .program .method C .instruction L
 
-  -- at monitorexit, the thread holds the object
-  pub exit-held : (v : Var) → P .method C .instruction L ≡ Exit v → 0 < countOf (s .counts) i (objectOf (varOf T (v .0)))
-  unfolding instructionOk
+  fine : (fails : Bool) → Fine P s i (faultOf (P .program) s i T (P .program .method C) fails X) (waitOf s i T X) (moveOf (P .program) s i T (P .program .method C) fails X)
+  fine fails = exec-fine fails X table-here (A .rule C L here)
+
+  -- THEOREM: an instruction of a live thread draws no fault
+  pub no-fault : (fails : Bool) → faultOf (P .program) s i T (P .program .method C) fails X ≡ 0
+  no-fault fails = fine fails .no-fault
+
+  -- THEOREM: where it doesn't wait, its move is a good step
+  pub move-good : (fails : Bool) → waitOf s i T X ≡ 0 → Good P s i (moveOf (P .program) s i T (P .program .method C) fails X)
+  move-good fails = fine fails .good
+
+  drawn : (ok : Bool) (n : ℕ) → 3 ≤ n → n ≤ 5 → test ok n 0 ≢ 0 → Good P s i (refused (test ok n 0) s)
+  unfolding refuse
+  drawn true n l k d = absurd (d refl)
+  drawn false n l k d = given P s i n l k inv
+
+  -- one that waits answers 3 or 4, and changes nothing
+  waits : (x : Instruction) → waitOf s i T x ≢ 0 → Good P s i (refused (waitOf s i T x) s)
+  waits Inc n = absurd (n refl)
+  waits Pop n = absurd (n refl)
+  waits Push0 n = absurd (n refl)
+  waits (Load v) n = absurd (n refl)
+  waits (Store v) n = absurd (n refl)
+  waits (If a) n = absurd (n refl)
+  waits (Enter v) n = drawn (othersFree (s .counts) i (lockOf T v)) 3 (omega arith) (omega arith) n
+  waits (Exit v) n = absurd (n refl)
+  waits (New c a) n = absurd (n refl)
+  waits (Start c) n = drawn (ltb (lowestFree s) 8) 4 (omega arith) (omega arith) n
+  waits (Throw a) n = absurd (n refl)
+  waits Return n = absurd (n refl)
+  waits Nothing n = absurd (n refl)
+
+  -- THEOREM: every step of a live thread is good
+  pub run-good : (fails : Bool) → Good P s i (runOf (P .program) s i T fails)
+  unfolding runOf
+  run-good fails = draws (Good P s i) s _ _ (λ n. absurd (n (no-fault fails))) (λ _. draws (Good P s i) s _ _ (waits X) (move-good fails))
+
+  -- at monitorexit, the thread ruleHolds the object
+  pub exit-held : (v : Var) → P .program .method C .instruction L ≡ Exit v → 0 < countOf (s .counts) i (objectOf (varOf T (v .0)))
   exit-held v q =
-      let h : instructionOk (P .classes) vars code L (Exit v) ≡ true = rw q at table-here in
-      let r : holds vars (ruleOf P vars (R C) L (Exit v)) ≡ true = rw q at (A .rule C L here) in
-      leaves-held P R A s inv i li lv v (ltb-true _ _ (search and-fst)) r
+      let h : InstructionFits (P .program .classes) vars code L (Exit v) = rw q at table-here in
+      let r : ruleHolds vars (ruleOf (P .program) vars (P .row C) L (Exit v)) ≡ true = rw q at (A .rule C L here) in
+      leaves-held P A s inv i li lv v (h .0) r

@@ -18,7 +18,7 @@ use Rattle.values.specs.declared.Value.the-variants.{Int}
 use Rattle.values.specs.declared.Slot.{Slot}
 use Rattle.values.specs.Values.{zeroSlot}
 use Rattle.threads.specs.declared.Thread.{Thread}
-use Rattle.threads.specs.Threads.{entryOf, varOf, withStack, pushed}
+use Rattle.threads.specs.Threads.{fromTop, varOf, withStack, pushed}
 
 unfoldable pub valueIn : List Slot → List Slot → ℕ → Value
 valueIn vars stack s = cond (ltb s 16) (getD vars s zeroSlot .value) (getD stack (s - 16) zeroSlot .value)
@@ -40,7 +40,7 @@ unfolding valueIn
 value-place t s p q = let e : s - 16 ≡ p = omega arith in rw (le-ltb s 16 (omega arith), e)
 
 -- the stack entry j, from the top
-pub value-entry : (t : Thread) (s j : ℕ) → 16 ≤ s → s + j + 1 ≡ 16 + t .depth → valueOf t s ≡ entryOf t j .value
+pub value-entry : (t : Thread) (s j : ℕ) → 16 ≤ s → s + j + 1 ≡ 16 + t .depth → valueOf t s ≡ fromTop t j .value
 value-entry t s j h q = value-place t s (t .depth - 1 - j) (omega arith)
 
 -- ---- writes

@@ -11,22 +11,19 @@ use Rattle.ground.specs.Bytes.{at}
 use Rattle.ground.specs.Chain.{refuse}
 use Rattle.ground.proofs.Bools.{and-fst, and-snd}
 use Rattle.ground.proofs.Bounded.{all-elim}
-use Rattle.bundle.specs.Container.{classes, classAt, partOf}
-use Rattle.bundle.specs.Program.{methodOf, methodAt, programOf}
+use Rattle.bundle.specs.Container.{classAt}
+use Rattle.bundle.specs.Program.{programOf}
 use Rattle.structure.proofs.Structured.{WellFormed, well-formed}
 use Rattle.entries.specs.Entries.{Entry, Int, Top, Ref, Blank, Malformed, minEnd, zeros, pairOk, entryOf, endOf, isTop, isType, argumentEntry}
 use Rattle.entries.specs.Fits.{entryFits}
-use Rattle.rows.specs.Rows.{Row, entryAt, variableAt, stackAt, rowAt}
+use Rattle.rows.specs.Rows.{Row, entryAt, variableAt, stackAt}
+use Rattle.rows.specs.Typed.{typedOf}
 use Rattle.forms.specs.Forms.{varFormed, entryFormed, varsFormed, stackFormed, rowFormed, firstVar, firstVars, firstRow}
 use Rattle.verifier.specs.Verdict.{verdictOf}
 use Rattle.verifier.specs.Places.{form, first, rule}
 use Rattle.verifier.proofs.FirstBroken.{verdict-zero, agrees-back}
 use Rattle.soundness.proofs.Kind.{nope}
 use Rattle.soundness.proofs.Accepted.{Accepted}
-
--- the rows of a bundle, by class and address
-abbrev pub rowsOf : List ℕ → ℕ → ℕ → Row
-rowsOf b c l = rowAt (classes b) (classAt b c) (partOf b (classAt b c)) l
 
 -- ---- an entry's end, as it is stored, is at least 1
 low : (n c d e : ℕ) → pairOk n c d e ≡ true → 1 ≤ e
@@ -88,19 +85,19 @@ module _ (vars args : ℕ) (descriptor : ℕ → ℕ) (x : Row) (h : firstRow va
   first-other i a l = is-top (x .variable i) (rw (le-ltb i args a) at (all-elim (firstVar args descriptor x) vars (search (and-fst, and-snd)) i l))
 
 -- THEOREM: a bundle with verdict 0 is accepted
-pub accepted : (b : List ℕ) → verdictOf b .number ≡ 0 → Accepted (programOf b) (rowsOf b)
-unfolding programOf methodAt methodOf variableAt stackAt refuse
+pub accepted : (b : List ℕ) → verdictOf b .number ≡ 0 → Accepted (typedOf b)
+unfolding programOf variableAt stackAt refuse
 accepted b e =
     let w : WellFormed (programOf b) = well-formed b (agrees-back b e) in
     record {
       formed = w;
-      depth-limit = λ c l a. formed-depth _ _ (rowsOf b c l) (verdict-zero b e (form c l) (a .class-known, a .first, a .last));
-      variable-type = λ c l i a. formed-variable _ _ (rowsOf b c l) (verdict-zero b e (form c l) (a .class-known, a .first, a .last)) i;
-      stack-type = λ c l j a. formed-stack _ _ (rowsOf b c l) (verdict-zero b e (form c l) (a .class-known, a .first, a .last)) j;
+      depth-limit = λ c l a. formed-depth _ _ (typedOf b .row c l) (verdict-zero b e (form c l) a);
+      variable-type = λ c l i a. formed-variable _ _ (typedOf b .row c l) (verdict-zero b e (form c l) a) i;
+      stack-type = λ c l j a. formed-stack _ _ (typedOf b .row c l) (verdict-zero b e (form c l) a) j;
       variable-end = λ c l i. read-end _ _ _;
       stack-end = λ c l j. either (ltb j (classAt b c .limit)) _ Blank (read-end _ _ _) (omega arith);
-      first-depth = λ c l. first-depth _ _ _ (rowsOf b c 1) (verdict-zero b e (first c) l);
-      first-argument = λ c i l a. first-argument _ _ _ (rowsOf b c 1) (verdict-zero b e (first c) l) i a (omega (arith, w .args-vars c l));
-      first-other = λ c i l a. first-other _ _ _ (rowsOf b c 1) (verdict-zero b e (first c) l) i a;
-      rule = λ c l a. verdict-zero b e (rule c l) (a .class-known, a .first, a .last);
+      first-depth = λ c l. first-depth _ _ _ (typedOf b .row c 1) (verdict-zero b e (first c) l);
+      first-argument = λ c i l a. first-argument _ _ _ (typedOf b .row c 1) (verdict-zero b e (first c) l) i a (omega (arith, w .args-vars c l));
+      first-other = λ c i l a. first-other _ _ _ (typedOf b .row c 1) (verdict-zero b e (first c) l) i a;
+      rule = λ c l a. verdict-zero b e (rule c l) a;
     }

@@ -17,13 +17,13 @@ pub record Call : Type 0 where
   pub result : Stepped
 
 -- the contract of step, of a call that was passed the state s
-abbrev pub Kept : List ℕ → State → Call → Type 0
-Kept b s c = c .result ≡ stepOf b s (c .who) (c .fails)
+abbrev pub Answered : List ℕ → State → Call → Type 0
+Answered b s c = c .result ≡ stepOf b s (c .who) (c .fails)
 
 -- calls, each of which was passed the state that the one before gave back
 unfoldable pub Called : List ℕ → State → List Call → Type 0
 Called b s [] = Unit
-Called b s (c ∷ cs) = Kept b s c × Called b (c .result .state) cs
+Called b s (c ∷ cs) = Answered b s c × Called b (c .result .state) cs
 
 -- the state that the last of them gave back
 unfoldable pub given : State → List Call → State
@@ -40,5 +40,5 @@ CallsServed =
     (b : List ℕ) (v : Verdict) → v ≡ verdictOf b → v .number ≡ 0
     → (f : Stepped) → f ≡ freshOf b
     → (cs : List Call) → Called b (f .state) cs
-    → (c : Call) → Kept b (given (f .state) cs) c
+    → (c : Call) → Answered b (given (f .state) cs) c
     → Served b (given (f .state) cs) c

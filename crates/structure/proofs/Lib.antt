@@ -1,3 +1,3 @@
-pub mod Order
+pub mod Judges
 pub mod FirstBroken
 pub mod Structured

@@ -10,9 +10,9 @@ use borrow.Author.Tests.{leb-true, ltb-true, eqb-true}
 use Rattle.ground.specs.Bytes.{at}
 use Rattle.ground.proofs.Bools.{and-fst, and-snd, or-right}
 use Rattle.ground.proofs.Bounded.{all-elim}
-use Rattle.instructions.specs.Table.{instructionOk}
+use Rattle.instructions.proofs.Table.{InstructionFits, admitted}
 use Rattle.bundle.specs.declared.Class.{Class}
-use Rattle.bundle.specs.Container.{classes, exception, classAt, recordFits}
+use Rattle.bundle.specs.Container.{classes, exception, classAt, recordFits, partOf, codeAt, instructionAt}
 use Rattle.bundle.specs.Program.{Program, methodOf, methodAt, programOf}
 use Rattle.structure.specs.Conditions.{lengthOk, directoryOk, mainOk, codeOk, limitsOk, descriptorOk, descriptorsOk, addressOk}
 use Rattle.structure.specs.Places.{whole, directory, limits, extent, descriptors, instruction}
@@ -53,7 +53,7 @@ pub record WellFormed (P : Program) : Type 0 where
   pub descriptor : (c i : ℕ) → c < P .classes → i < P .method c .args
       → (P .method c .descriptor i ≡ 255) ⊎ (P .method c .descriptor i < P .classes)
   pub table : (c l : ℕ) → c < P .classes → 1 ≤ l → l ≤ P .method c .code
-      → instructionOk (P .classes) (P .method c .vars) (P .method c .code) l (P .method c .instruction l) ≡ true
+      → InstructionFits (P .classes) (P .method c .vars) (P .method c .code) l (P .method c .instruction l)
 
 descriptor-is : (n : ℕ) (r : List ℕ) (i : ℕ) → descriptorOk n r i ≡ true → (at r i ≡ 255) ⊎ (at r i < n)
 unfolding descriptorOk
@@ -87,7 +87,7 @@ module _ (b : List ℕ) (e : structureOf b .number ≡ 0) where
   exception-class = let h = structure-zero b e directory tt in ltb-true (exception b) (classes b) (search (and-fst, and-snd))
 
   pub well-formed : WellFormed (programOf b)
-  unfolding programOf methodAt methodOf descriptorsOk addressOk
+  unfolding programOf methodAt methodOf instructionAt descriptorsOk addressOk
   well-formed =
       record {
         some-class = some-classes .0;
@@ -100,5 +100,7 @@ module _ (b : List ℕ) (e : structureOf b .number ≡ 0) where
         some-code = λ c l. class-limits c l .some-code;
         code-256 = λ c l. class-limits c l .code-256;
         descriptor = λ c i l h. descriptor-is (classes b) _ i (all-elim _ (classAt b c .args) (structure-zero b e (descriptors c) l) i h);
-        table = λ c l h a z. structure-zero b e (instruction c l) (h, a, z);
+        table = λ c l h a z.
+            let k = classAt b c in
+            admitted (classes b) (k .vars) (k .code) l (codeAt k (partOf b k) l) z (structure-zero b e (instruction c l) (record { class-known = h; first = a; last = z }));
       }

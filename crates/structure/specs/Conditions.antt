@@ -8,7 +8,7 @@ use Rattle.ground.specs.Bytes.{at, be16}
 use Rattle.ground.specs.Bounded.{allBelow}
 use Rattle.instructions.specs.Table.{instructionOk}
 use Rattle.bundle.specs.declared.Class.{Class}
-use Rattle.bundle.specs.Container.{directoryAt, classes, exception, instructionAt}
+use Rattle.bundle.specs.Container.{directoryAt, classes, exception, codeAt}
 
 -- 1: length below 8 or above 65,535
 unfoldable pub lengthOk : List ℕ → Bool
@@ -59,4 +59,4 @@ descriptorsOk n k r = allBelow (k .args) (descriptorOk n r)
 
 -- 7: an instruction breaks the table
 unfoldable pub addressOk : ℕ → Class → List ℕ → ℕ → Bool
-addressOk n k r l = instructionOk n (k .vars) (k .code) l (instructionAt k r l)
+addressOk n k r l = instructionOk n (k .vars) (k .code) l (codeAt k r l)

@@ -1,4 +1,5 @@
 pub mod Verdicts
 pub mod Conditions
-pub mod Structure
 pub mod Places
+pub mod Structure
+pub mod Loops

@@ -1,10 +1,12 @@
--- The places at which a bundle can break a condition of 1 to 7, each with its verdict and its rank in the document's order.
-use mathlib.Core.List.{List}
+-- The places at which a bundle can break a condition of 1 to 7, in the document's order, each with its verdict.
+use mathlib.Core.List.{List, [], _∷_, _++_}
 use mathlib.Core.Bool.{Bool}
-use Prim.Native.Nat.{ℕ, _<_, _≤_}
+use Prim.Native.Nat.{ℕ, _+_, _<_}
+use Rattle.ground.specs.Lists.{each, numbered}
 use Rattle.bundle.specs.Container.{classes, classAt, recordFits, partOf}
+use Rattle.bundle.specs.Program.{Address, programOf}
 use Rattle.structure.specs.declared.Verdict.{Verdict}
-use Rattle.structure.specs.Verdicts.{verdict, Rank, ranked, InOrder}
+use Rattle.structure.specs.Verdicts.{verdict}
 use Rattle.structure.specs.Conditions.{lengthOk, trailerOk, directoryOk, limitsOk, descriptorsOk, addressOk}
 
 pub data Place : Type 0 where
@@ -20,7 +22,27 @@ Within b directory = Unit
 Within b (limits c) = c < classes b
 Within b (extent c) = c < classes b
 Within b (descriptors c) = c < classes b
-Within b (instruction c l) = (c < classes b) × (1 ≤ l) × (l ≤ classAt b c .code)
+Within b (instruction c l) = Address (programOf b) c l
+
+-- 1 to 3 first
+abbrev pub headPlaces : List Place
+headPlaces = whole ∷ trailer ∷ directory ∷ []
+
+-- then 4, 5, 6 class by class
+abbrev pub shapePlaces : ℕ → List Place
+shapePlaces c = limits c ∷ extent c ∷ descriptors c ∷ []
+
+-- 1 to 6
+abbrev pub layoutPlaces : List ℕ → List Place
+layoutPlaces b = headPlaces ++ each (classes b) shapePlaces
+
+-- then 7 over all classes and addresses, ascending
+abbrev pub tablePlaces : List ℕ → ℕ → List Place
+tablePlaces b c = numbered (classAt b c .code) (λ i. instruction c (i + 1))
+
+-- 1 to 7, in the document's order
+abbrev pub structurePlaces : List ℕ → List Place
+structurePlaces b = layoutPlaces b ++ each (classes b) (tablePlaces b)
 
 -- the condition at a place holds
 abbrev pub holds : List ℕ → Place → Bool
@@ -41,16 +63,3 @@ drawn (limits c) = verdict 4 c 0
 drawn (extent c) = verdict 5 c 0
 drawn (descriptors c) = verdict 6 c 0
 drawn (instruction c l) = verdict 7 c l
-
--- 1 to 3 first; then 4, 5, 6 class by class; then 7 over all classes and addresses, ascending
-abbrev pub rank : Place → Rank
-rank whole = ranked 1 0 0
-rank trailer = ranked 2 0 0
-rank directory = ranked 3 0 0
-rank (limits c) = ranked 4 c 4
-rank (extent c) = ranked 4 c 5
-rank (descriptors c) = ranked 4 c 6
-rank (instruction c l) = ranked 5 c l
-
-abbrev pub Earlier : Place → Place → Type 0
-Earlier p q = InOrder (rank p) (rank q)

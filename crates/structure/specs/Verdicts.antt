@@ -1,10 +1,10 @@
--- A verdict: its number, the class and address that it names, and its why.
-use mathlib.Core.Bool.{Bool, not}
-use mathlib.Core.Logic.{_⊎_}
+-- A verdict: its number, the class and address that it names, and its why; and what it is to judge the places of a bundle.
+use mathlib.Core.List.{List}
+use mathlib.Core.Bool.{Bool, true, not}
 use mathlib.Core.Path.{_≡_}
-use Prim.Native.Nat.{ℕ, _<_}
+use Prim.Native.Nat.{ℕ}
 use lib.Dec.{eqb}
-use Rattle.ground.specs.Chain.{orThen, scan}
+use Rattle.ground.specs.Lists.{In, First}
 use Rattle.structure.specs.declared.Verdict.{Verdict}
 
 -- why is 0 with every verdict but 9
@@ -22,22 +22,22 @@ isBad v = not (eqb (v .number) 0)
 abbrev pub pass : Verdict
 pass = verdict 0 0 0
 
--- one stage after another: the first's verdict where it is bad
-abbrev pub andThen : Verdict → Verdict → Verdict
-andThen first second = orThen isBad first second
+-- places in their order, whether one holds, and the verdict that a broken one draws
+module _ {P : Type 0} (holds : P → Bool) (drawn : P → Verdict) (places : List P) where
+  -- v is what a broken place draws, before which every place holds
+  pub record Names (v : Verdict) : Type 0 where
+    pub place : P
+    pub first : First holds places place
+    pub is : v ≡ drawn place
 
--- the first bad verdict of n in ascending order
-abbrev pub ascending : ℕ → (ℕ → Verdict) → Verdict
-ascending n f = scan isBad pass n f
-
--- where a verdict stands in the document's order: its stage, then its class, then what comes first within the class
-pub record Rank : Type 0 where
-  pub stage : ℕ
-  pub class : ℕ
-  pub inside : ℕ
-
-abbrev pub ranked : ℕ → ℕ → ℕ → Rank
-ranked s c i = record { stage = s; class = c; inside = i }
-
-abbrev pub InOrder : Rank → Rank → Type 0
-InOrder p q = (p .stage < q .stage) ⊎ ((p .stage ≡ q .stage) × ((p .class < q .class) ⊎ ((p .class ≡ q .class) × (p .inside < q .inside))))
+  -- what the verdict v says of a bundle of n classes, whose places are those within it
+  pub record Judges (Within : P → Type 0) (n : ℕ) (v : Verdict) : Type 0 where
+    -- the list has the places within the bundle, and no other
+    pub listed : (p : P) → Within p → In p places
+    pub within : (p : P) → In p places → Within p
+    -- a verdict other than 0 is the first broken place's
+    pub first : isBad v ≡ true → Names v
+    -- 0: every place holds, in whatever order they are looked at
+    pub zero : v .number ≡ 0 → (p : P) → Within p → holds p ≡ true
+    -- .. and only then
+    pub only : ((p : P) → Within p → holds p ≡ true) → v ≡ verdict 0 n 0

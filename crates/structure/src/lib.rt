@@ -1,10 +1,13 @@
 // Verdicts 1 to 7 of document 01 in their order, and the search for a class's record.
 ghost use mathlib.Core.Path.{_≡_};
-ghost use Rattle.structure.specs.Verdicts.{pass};
 ghost use Rattle.structure.specs.Conditions.{lengthOk, trailerOk, directoryOk, mainOk, codeOk, limitsOk, descriptorOk, descriptorsOk, addressOk};
-ghost use Rattle.structure.specs.Structure.{headOf, shapeOf, shapeAt, shapesOf, layoutOf, tableAt, tableOf, tableOfClass, tablesOf, structureOf, recordOf};
-ghost use Rattle.bundle.specs.Container.{classes};
-ghost use Prim.Native.Nat.{_<_, _≤_};
+ghost use Rattle.structure.specs.Places.{headPlaces, shapePlaces, tablePlaces};
+ghost use Rattle.structure.specs.Structure.{searched, layoutOf, structureOf, recordOf, recordPlace};
+ghost use Rattle.structure.specs.Loops.{tableAt, tableOf};
+ghost use Rattle.ground.specs.Lists.{each};
+ghost use Rattle.ground.specs.Bytes.{Begins};
+ghost use Rattle.bundle.specs.Container.{classes, classAt};
+ghost use Prim.Native.Nat.{_<_};
 use bundle::Class;
 use instructions::Addr;
 
@@ -41,7 +44,7 @@ fn directory_ok(b: &[u8]) -> bool
 }
 
 fn head(b: &[u8]) -> Verdict
-    ensures { λ r. ⌜ r ≡ headOf (now (b .entry)) ⌝ }
+    ensures { λ r. ⌜ r ≡ searched (now (b .entry)) headPlaces ⌝ }
 {
     if !length_ok(b) {
         return Verdict {
@@ -118,7 +121,8 @@ fn descriptors_ok(n: u8, k: Class, r: &[u8]) -> bool
 }
 
 fn shape_of(b: &[u8], c: u8, k: Class) -> Verdict
-    ensures { λ r. ⌜ r ≡ shapeOf (now (b .entry)) c k ⌝ }
+    requires { ⌜ k ≡ classAt (now b) c ⌝ }
+    ensures { λ r. ⌜ r ≡ searched (now (b .entry)) (shapePlaces c) ⌝ }
 {
     if !limits_ok(c, k) {
         return Verdict {
@@ -153,13 +157,13 @@ fn shape_of(b: &[u8], c: u8, k: Class) -> Verdict
 }
 
 fn shape_at(b: &[u8], c: u8) -> Verdict
-    ensures { λ r. ⌜ r ≡ shapeAt (now (b .entry)) c ⌝ }
+    ensures { λ r. ⌜ r ≡ searched (now (b .entry)) (shapePlaces c) ⌝ }
 {
     shape_of(b, c, bundle::class_at(b, c))
 }
 
 fn shapes(b: &[u8]) -> Verdict
-    ensures { λ r. ⌜ r ≡ shapesOf (now (b .entry)) ⌝ }
+    ensures { λ r. ⌜ r ≡ searched (now (b .entry)) (each (classes (now (b .entry))) shapePlaces) ⌝ }
 {
     let n = bundle::classes(b);
     for c in 0..n {
@@ -232,14 +236,14 @@ fn table_of(n: u8, c: u8, k: Class, r: &[u8]) -> Verdict
 }
 
 fn table_of_class(b: &[u8], c: u8) -> Verdict
-    ensures { λ r. ⌜ r ≡ tableOfClass (now (b .entry)) c ⌝ }
+    ensures { λ r. ⌜ r ≡ searched (now (b .entry)) (tablePlaces (now (b .entry)) c) ⌝ }
 {
     let k = bundle::class_at(b, c);
     table_of(bundle::classes(b), c, k, bundle::part_of(b, k))
 }
 
 fn tables(b: &[u8]) -> Verdict
-    ensures { λ r. ⌜ r ≡ tablesOf (now (b .entry)) ⌝ }
+    ensures { λ r. ⌜ r ≡ searched (now (b .entry)) (each (classes (now (b .entry))) (tablePlaces (now (b .entry)))) ⌝ }
 {
     let n = bundle::classes(b);
     for c in 0..n {
@@ -278,7 +282,7 @@ pub fn structure(b: &[u8]) -> Verdict
 
 // The record of a class as a part of the caller's bundle, no copy; empty on verdicts 1 to 6 or where there is no such class.
 pub fn record<'a>(b: &'a [u8], c: u8) -> &'a [u8]
-    ensures { λ r. ⌜ now r ≡ recordOf (now (b .entry)) c ⌝ }
+    ensures { λ r. ⌜ (now r ≡ recordOf (now (b .entry)) c) × Begins r (b .entry) (recordPlace (now (b .entry)) c) ⌝ }
 {
     let v = layout(b);
     if v.number != 0 {

@@ -24,11 +24,11 @@ abbrev pub withAt : Thread → ℕ → Thread
 withAt t a = record { live = t .live; class = t .class; at = addr a; depth = t .depth; vars = t .vars; stack = t .stack }
 
 -- the stack entry j, the top being entry 0
-abbrev pub entryOf : Thread → ℕ → Slot
-entryOf t j = getD (t .stack) (t .depth - 1 - j) zeroSlot
+abbrev pub fromTop : Thread → ℕ → Slot
+fromTop t j = getD (t .stack) (t .depth - 1 - j) zeroSlot
 
 abbrev pub topOf : Thread → Slot
-topOf t = entryOf t 0
+topOf t = fromTop t 0
 
 abbrev pub varOf : Thread → ℕ → Slot
 varOf t v = getD (t .vars) v zeroSlot
@@ -69,6 +69,6 @@ started old starter c n =
       class = c;
       at = addr 1;
       depth = 0;
-      vars = setBelow n (entryOf starter) (replicate 16 zeroSlot);
+      vars = setBelow n (fromTop starter) (replicate 16 zeroSlot);
       stack = old .stack;
     }

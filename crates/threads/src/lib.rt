@@ -4,7 +4,7 @@ ghost use Prim.Native.Nat.{_-_};
 ghost use lib.ListN.{replicate};
 ghost use Rattle.ground.specs.Bounded.{setBelow, fillFrom};
 ghost use Rattle.values.specs.Values.{zeroSlot};
-ghost use Rattle.threads.specs.Threads.{idle, entryOf, topOf, varOf, withAt, topped, pushed, popped, stored, ended, started};
+ghost use Rattle.threads.specs.Threads.{idle, fromTop, topOf, varOf, withAt, topped, pushed, popped, stored, ended, started};
 use instructions::Addr;
 use instructions::Var;
 use values::Slot;
@@ -47,8 +47,8 @@ fn place(depth: u8, j: u8) -> u8
     minus(minus(depth, 1), j)
 }
 
-pub fn entry(t: Thread, j: u8) -> Slot
-    ensures { λ r. ⌜ r ≡ entryOf t j ⌝ }
+pub fn from_top(t: Thread, j: u8) -> Slot
+    ensures { λ r. ⌜ r ≡ fromTop t j ⌝ }
 {
     let p = place(t.depth, j) as usize;
     if p < 16 {
@@ -61,7 +61,7 @@ pub fn entry(t: Thread, j: u8) -> Slot
 pub fn top(t: Thread) -> Slot
     ensures { λ r. ⌜ r ≡ topOf t ⌝ }
 {
-    entry(t, 0)
+    from_top(t, 0)
 }
 
 pub fn var(t: Thread, v: Var) -> Slot
@@ -172,7 +172,7 @@ pub fn end(t: Thread, v: u8) -> Thread
 
 // The variables that a thread starts with: the starter's top n entries, and 0.
 fn arguments(starter: Thread, n: u8) -> [Slot; 16]
-    ensures { λ r. ⌜ r ≡ setBelow n (entryOf starter) (replicate 16 zeroSlot) ⌝ }
+    ensures { λ r. ⌜ r ≡ setBelow n (fromTop starter) (replicate 16 zeroSlot) ⌝ }
 {
     let z = values::zero_slot();
     let mut next = [z; 16];

@@ -1,3 +1,4 @@
-pub mod Verdict
 pub mod Places
+pub mod Verdict
 pub mod Why
+pub mod Loops

@@ -2,7 +2,11 @@
 ghost use mathlib.Core.Path.{_≡_};
 ghost use Prim.Native.Nat.{_<_};
 ghost use Rattle.bundle.specs.Program.{programOf};
-ghost use Rattle.verifier.specs.Verdict.{formAt, formsOf, formsOfClass, formsOfAll, ruleVerdict, rulesOf, rulesOfClass, rulesOfAll, verdictOf};
+ghost use Rattle.bundle.specs.Container.{classes};
+ghost use Rattle.ground.specs.Lists.{each};
+ghost use Rattle.verifier.specs.Places.{formPlaces, rulePlaces};
+ghost use Rattle.verifier.specs.Verdict.{verdictOf};
+ghost use Rattle.verifier.specs.Loops.{searched, formAt, formsOf, ruleVerdict, rulesOf};
 use bundle::Class;
 use instructions::Addr;
 use structure::Verdict;
@@ -46,14 +50,14 @@ fn forms_of(n: u8, c: u8, k: Class, r: &[u8]) -> Verdict
 }
 
 fn forms_of_class(b: &[u8], c: u8) -> Verdict
-    ensures { λ o. ⌜ o ≡ formsOfClass (now (b .entry)) c ⌝ }
+    ensures { λ o. ⌜ o ≡ searched (now (b .entry)) (formPlaces (now (b .entry)) c) ⌝ }
 {
     let k = bundle::class_at(b, c);
     forms_of(bundle::classes(b), c, k, bundle::part_of(b, k))
 }
 
 fn forms_of_all(b: &[u8]) -> Verdict
-    ensures { λ o. ⌜ o ≡ formsOfAll (now (b .entry)) ⌝ }
+    ensures { λ o. ⌜ o ≡ searched (now (b .entry)) (each (classes (now (b .entry))) (formPlaces (now (b .entry)))) ⌝ }
 {
     let n = bundle::classes(b);
     for c in 0..n {
@@ -119,14 +123,14 @@ fn rules_of(b: &[u8], n: u8, c: u8, k: Class, r: &[u8]) -> Verdict
 }
 
 fn rules_of_class(b: &[u8], c: u8) -> Verdict
-    ensures { λ o. ⌜ o ≡ rulesOfClass (now (b .entry)) c ⌝ }
+    ensures { λ o. ⌜ o ≡ searched (now (b .entry)) (rulePlaces (now (b .entry)) c) ⌝ }
 {
     let k = bundle::class_at(b, c);
     rules_of(b, bundle::classes(b), c, k, bundle::part_of(b, k))
 }
 
 fn rules_of_all(b: &[u8]) -> Verdict
-    ensures { λ o. ⌜ o ≡ rulesOfAll (now (b .entry)) ⌝ }
+    ensures { λ o. ⌜ o ≡ searched (now (b .entry)) (each (classes (now (b .entry))) (rulePlaces (now (b .entry)))) ⌝ }
 {
     let n = bundle::classes(b);
     for c in 0..n {

@@ -8,15 +8,12 @@ returns : tie.Need-returns
 unfolding lastOk
 returns c = rw (ne-eqb _ _ (c .if1 .taken))
 
-instruction-of-requires : tie.Need-instruction-of-requires
-instruction-of-requires c κs = search needs
-
 ends-code-requires : tie.Need-ends-code-requires
 ends-code-requires c κs = search needs
 
 returns-2 : tie.Need-returns-2
 unfolding lastOk
-returns-2 c = rw (eq-eqb _ _ (c .before .before .if1 .left), ← c .before .instruction-of .ensures) (c .ends-code .ensures)
+returns-2 c = rw (eq-eqb _ _ (c .before .if1 .left)) (c .ends-code .ensures)
 
 pub last-ok-spec : {M : Type 1} → statement M
-last-ok-spec = tie.close (tie.spec returns instruction-of-requires ends-code-requires returns-2)
+last-ok-spec = tie.close (tie.spec returns ends-code-requires returns-2)

@@ -1,7 +1,10 @@
-use mathlib.Core.Path.{refl, _∙_}
+use mathlib.Core.Path.{_∙_}
+use Rattle.ground.specs.Chain.{refuse}
 use Rattle.bundle.specs.Program.{methodOf, programOf}
 use Rattle.threads.proofs.Places.{length-mapped}
+use Rattle.machine.specs.Answers.{unlessDrawn}
 use Rattle.machine.proofs.Ready.{next-fits, rests, runs}
+use Rattle.machine.proofs.Refusals.{drawn-same}
 use borrow.Author.Needs.{needs}
 use Rattle.machine.proofs.run.Statement.{statement}
 use Rattle.machine.proofs.run.Tie as tie
@@ -106,74 +109,80 @@ enum-told-5 : tie.Need-enum-told-5
 enum-told-5 c = search needs
 
 returns-2 : tie.Need-returns-2
+unfolding unlessDrawn refuse
 returns-2 c =
-    runs _ (c .before .before .before .before .before .before .before .before .before .before .args .t2) _ _ (search (needs, length-mapped, c .before .before .before .before .before .before .before .before .before .before .good)) (c .before .before .before .before .before .before .before .before .before .before .pre) _ (c .before .before .before .before .before .before .if1 .left) (c .before .before .before .before .before .class-at .ensures) (c .before .before .before .before .part-of .ensures) (c .before .before .before .instruction-at .ensures)
+    runs _ (c .before .before .before .before .before .before .before .before .before .before .args .t2) _ _ (search (needs, length-mapped, c .before .before .before .before .before .before .before .before .before .before .good)) (c .before .before .before .before .before .before .before .before .before .before .pre) _ (c .before .before .before .before .before .before .if1 .left) (c .before .before .before .before .before .class-at .ensures) (c .before .before .before .before .part-of .ensures .0) (c .before .before .before .instruction-at .ensures)
     (rw (c .inc-step .ensures, c .before .enum-told .given .1))
 
 returns-3 : tie.Need-returns-3
+unfolding unlessDrawn refuse
 returns-3 c =
-    runs _ (c .before .before .before .before .before .before .before .before .before .before .args .t2) _ _ (search (needs, length-mapped, c .before .before .before .before .before .before .before .before .before .before .good)) (c .before .before .before .before .before .before .before .before .before .before .pre) _ (c .before .before .before .before .before .before .if1 .left) (c .before .before .before .before .before .class-at .ensures) (c .before .before .before .before .part-of .ensures) (c .before .before .before .instruction-at .ensures)
+    runs _ (c .before .before .before .before .before .before .before .before .before .before .args .t2) _ _ (search (needs, length-mapped, c .before .before .before .before .before .before .before .before .before .before .good)) (c .before .before .before .before .before .before .before .before .before .before .pre) _ (c .before .before .before .before .before .before .if1 .left) (c .before .before .before .before .before .class-at .ensures) (c .before .before .before .before .part-of .ensures .0) (c .before .before .before .instruction-at .ensures)
     (rw (c .pop-step .ensures, c .before .enum-told2 .given .1))
 
 returns-4 : tie.Need-returns-4
-unfolding methodOf
+unfolding methodOf unlessDrawn refuse
 returns-4 c =
-    runs _ (c .before .before .before .before .before .before .before .before .before .before .args .t2) _ _ (search (needs, length-mapped, c .before .before .before .before .before .before .before .before .before .before .good)) (c .before .before .before .before .before .before .before .before .before .before .pre) _ (c .before .before .before .before .before .before .if1 .left) (c .before .before .before .before .before .class-at .ensures) (c .before .before .before .before .part-of .ensures) (c .before .before .before .instruction-at .ensures)
+    runs _ (c .before .before .before .before .before .before .before .before .before .before .args .t2) _ _ (search (needs, length-mapped, c .before .before .before .before .before .before .before .before .before .before .good)) (c .before .before .before .before .before .before .before .before .before .before .pre) _ (c .before .before .before .before .before .before .if1 .left) (c .before .before .before .before .before .class-at .ensures) (c .before .before .before .before .part-of .ensures .0) (c .before .before .before .instruction-at .ensures)
     (rw (c .push0-step .ensures, c .before .enum-told3 .given .1))
 
 returns-5 : tie.Need-returns-5
-unfolding methodOf
+unfolding methodOf unlessDrawn refuse
 returns-5 c =
-    runs _ (c .before .before .before .before .before .before .before .before .before .before .before .args .t2) _ _ (search (needs, length-mapped, c .before .before .before .before .before .before .before .before .before .before .before .good)) (c .before .before .before .before .before .before .before .before .before .before .before .pre) _ (c .before .before .before .before .before .before .before .if1 .left) (c .before .before .before .before .before .before .class-at .ensures) (c .before .before .before .before .before .part-of .ensures) (c .before .before .before .before .instruction-at .ensures)
+    runs _ (c .before .before .before .before .before .before .before .before .before .before .before .args .t2) _ _ (search (needs, length-mapped, c .before .before .before .before .before .before .before .before .before .before .before .good)) (c .before .before .before .before .before .before .before .before .before .before .before .pre) _ (c .before .before .before .before .before .before .before .if1 .left) (c .before .before .before .before .before .before .class-at .ensures) (c .before .before .before .before .before .part-of .ensures .0) (c .before .before .before .before .instruction-at .ensures)
     (rw (c .load-step .ensures, c .before .before .x .given .1))
 
 returns-6 : tie.Need-returns-6
+unfolding unlessDrawn refuse
 returns-6 c =
-    runs _ (c .before .before .before .before .before .before .before .before .before .before .before .args .t2) _ _ (search (needs, length-mapped, c .before .before .before .before .before .before .before .before .before .before .before .good)) (c .before .before .before .before .before .before .before .before .before .before .before .pre) _ (c .before .before .before .before .before .before .before .if1 .left) (c .before .before .before .before .before .before .class-at .ensures) (c .before .before .before .before .before .part-of .ensures) (c .before .before .before .before .instruction-at .ensures)
+    runs _ (c .before .before .before .before .before .before .before .before .before .before .before .args .t2) _ _ (search (needs, length-mapped, c .before .before .before .before .before .before .before .before .before .before .before .good)) (c .before .before .before .before .before .before .before .before .before .before .before .pre) _ (c .before .before .before .before .before .before .before .if1 .left) (c .before .before .before .before .before .before .class-at .ensures) (c .before .before .before .before .before .part-of .ensures .0) (c .before .before .before .before .instruction-at .ensures)
     (rw (c .store-step .ensures, c .before .before .x2 .given .1))
 
 returns-7 : tie.Need-returns-7
+unfolding unlessDrawn refuse
 returns-7 c =
-    runs _ (c .before .before .before .before .before .before .before .before .before .before .before .args .t2) _ _ (search (needs, length-mapped, c .before .before .before .before .before .before .before .before .before .before .before .good)) (c .before .before .before .before .before .before .before .before .before .before .before .pre) _ (c .before .before .before .before .before .before .before .if1 .left) (c .before .before .before .before .before .before .class-at .ensures) (c .before .before .before .before .before .part-of .ensures) (c .before .before .before .before .instruction-at .ensures)
+    runs _ (c .before .before .before .before .before .before .before .before .before .before .before .args .t2) _ _ (search (needs, length-mapped, c .before .before .before .before .before .before .before .before .before .before .before .good)) (c .before .before .before .before .before .before .before .before .before .before .before .pre) _ (c .before .before .before .before .before .before .before .if1 .left) (c .before .before .before .before .before .before .class-at .ensures) (c .before .before .before .before .before .part-of .ensures .0) (c .before .before .before .before .instruction-at .ensures)
     (rw (c .if-step .ensures, c .before .before .x3 .given .1))
 
 returns-8 : tie.Need-returns-8
 returns-8 c =
-    runs _ (c .before .before .before .before .before .before .before .before .before .before .before .args .t2) _ _ (search (needs, length-mapped, c .before .before .before .before .before .before .before .before .before .before .before .good)) (c .before .before .before .before .before .before .before .before .before .before .before .pre) _ (c .before .before .before .before .before .before .before .if1 .left) (c .before .before .before .before .before .before .class-at .ensures) (c .before .before .before .before .before .part-of .ensures) (c .before .before .before .before .instruction-at .ensures)
+    runs _ (c .before .before .before .before .before .before .before .before .before .before .before .args .t2) _ _ (search (needs, length-mapped, c .before .before .before .before .before .before .before .before .before .before .before .good)) (c .before .before .before .before .before .before .before .before .before .before .before .pre) _ (c .before .before .before .before .before .before .before .if1 .left) (c .before .before .before .before .before .before .class-at .ensures) (c .before .before .before .before .before .part-of .ensures .0) (c .before .before .before .before .instruction-at .ensures)
     (rw (c .enter-step .ensures, c .before .before .x4 .given .1))
 
 returns-9 : tie.Need-returns-9
+unfolding unlessDrawn refuse
 returns-9 c =
-    runs _ (c .before .before .before .before .before .before .before .before .before .before .before .args .t2) _ _ (search (needs, length-mapped, c .before .before .before .before .before .before .before .before .before .before .before .good)) (c .before .before .before .before .before .before .before .before .before .before .before .pre) _ (c .before .before .before .before .before .before .before .if1 .left) (c .before .before .before .before .before .before .class-at .ensures) (c .before .before .before .before .before .part-of .ensures) (c .before .before .before .before .instruction-at .ensures)
+    runs _ (c .before .before .before .before .before .before .before .before .before .before .before .args .t2) _ _ (search (needs, length-mapped, c .before .before .before .before .before .before .before .before .before .before .before .good)) (c .before .before .before .before .before .before .before .before .before .before .before .pre) _ (c .before .before .before .before .before .before .before .if1 .left) (c .before .before .before .before .before .before .class-at .ensures) (c .before .before .before .before .before .part-of .ensures .0) (c .before .before .before .before .instruction-at .ensures)
     (rw (c .exit-step .ensures, c .before .before .x5 .given .1))
 
 returns-10 : tie.Need-returns-10
-unfolding methodOf
+unfolding methodOf unlessDrawn refuse
 returns-10 c =
-    runs _ (c .before .before .before .before .before .before .before .before .before .before .before .args .t2) _ _ (search (needs, length-mapped, c .before .before .before .before .before .before .before .before .before .before .before .good)) (c .before .before .before .before .before .before .before .before .before .before .before .pre) _ (c .before .before .before .before .before .before .before .if1 .left) (c .before .before .before .before .before .before .class-at .ensures) (c .before .before .before .before .before .part-of .ensures) (c .before .before .before .before .instruction-at .ensures)
+    runs _ (c .before .before .before .before .before .before .before .before .before .before .before .args .t2) _ _ (search (needs, length-mapped, c .before .before .before .before .before .before .before .before .before .before .before .good)) (c .before .before .before .before .before .before .before .before .before .before .before .pre) _ (c .before .before .before .before .before .before .before .if1 .left) (c .before .before .before .before .before .before .class-at .ensures) (c .before .before .before .before .before .part-of .ensures .0) (c .before .before .before .before .instruction-at .ensures)
     (rw (c .new-step .ensures, c .before .before .x6 .given .1))
 
 returns-11 : tie.Need-returns-11
 unfolding programOf
 returns-11 c =
-    runs _ (c .before .before .before .before .before .before .before .before .before .before .before .args .t2) _ _ (search (needs, length-mapped, c .before .before .before .before .before .before .before .before .before .before .before .good)) (c .before .before .before .before .before .before .before .before .before .before .before .pre) _ (c .before .before .before .before .before .before .before .if1 .left) (c .before .before .before .before .before .before .class-at .ensures) (c .before .before .before .before .before .part-of .ensures) (c .before .before .before .before .instruction-at .ensures)
+    runs _ (c .before .before .before .before .before .before .before .before .before .before .before .args .t2) _ _ (search (needs, length-mapped, c .before .before .before .before .before .before .before .before .before .before .before .good)) (c .before .before .before .before .before .before .before .before .before .before .before .pre) _ (c .before .before .before .before .before .before .before .if1 .left) (c .before .before .before .before .before .before .class-at .ensures) (c .before .before .before .before .before .part-of .ensures .0) (c .before .before .before .before .instruction-at .ensures)
     (rw (c .start-class .ensures, c .before .before .x7 .given .1))
 
 returns-12 : tie.Need-returns-12
-unfolding methodOf programOf
+unfolding methodOf programOf unlessDrawn refuse
 returns-12 c =
-    runs _ (c .before .before .before .before .before .before .before .before .before .before .before .before .args .t2) _ _ (search (needs, length-mapped, c .before .before .before .before .before .before .before .before .before .before .before .before .good)) (c .before .before .before .before .before .before .before .before .before .before .before .before .pre) _ (c .before .before .before .before .before .before .before .before .if1 .left) (c .before .before .before .before .before .before .before .class-at .ensures) (c .before .before .before .before .before .before .part-of .ensures) (c .before .before .before .before .before .instruction-at .ensures)
+    runs _ (c .before .before .before .before .before .before .before .before .before .before .before .before .args .t2) _ _ (search (needs, length-mapped, c .before .before .before .before .before .before .before .before .before .before .before .before .good)) (c .before .before .before .before .before .before .before .before .before .before .before .before .pre) _ (c .before .before .before .before .before .before .before .before .if1 .left) (c .before .before .before .before .before .before .before .class-at .ensures) (c .before .before .before .before .before .before .part-of .ensures .0) (c .before .before .before .before .before .instruction-at .ensures)
     (rw (c .athrow-step .ensures, c .before .exception .ensures, c .before .before .before .x8 .given .1))
 
 returns-13 : tie.Need-returns-13
-unfolding methodOf
+unfolding methodOf unlessDrawn refuse
 returns-13 c =
-    runs _ (c .before .before .before .before .before .before .before .before .before .before .before .before .before .before .args .t2) _ _ (search (needs, length-mapped, c .before .before .before .before .before .before .before .before .before .before .before .before .before .before .good)) (c .before .before .before .before .before .before .before .before .before .before .before .before .before .before .pre) _ (c .before .before .before .before .before .before .before .before .before .before .if1 .left) (c .before .before .before .before .before .before .before .before .before .class-at .ensures) (c .before .before .before .before .before .before .before .before .part-of .ensures) (c .before .before .before .before .before .before .before .instruction-at .ensures)
-    (rw (c .before .before .before .before .before .enum-told4 .given .1) (c .settle .ensures ∙ c .before .end-turn .ensures _ refl))
+    runs _ (c .before .before .before .before .before .before .before .before .before .before .before .before .before .before .args .t2) _ _ (search (needs, length-mapped, c .before .before .before .before .before .before .before .before .before .before .before .before .before .before .good)) (c .before .before .before .before .before .before .before .before .before .before .before .before .before .before .pre) _ (c .before .before .before .before .before .before .before .before .before .before .if1 .left) (c .before .before .before .before .before .before .before .before .before .class-at .ensures) (c .before .before .before .before .before .before .before .before .part-of .ensures .0) (c .before .before .before .before .before .before .before .instruction-at .ensures)
+    (rw (c .before .before .before .before .before .enum-told4 .given .1) (c .settle .ensures ∙ drawn-same (c .before .before .before .before .before .before .before .before .before .before .before .before .before .before .args .t2) (c .before .end-turn .ensures .0) (λ q. c .before .end-turn .ensures .1 q (c .before .before .before .before .before .before .before .before .before .before .before .before .before .before .args .t2))))
 
 returns-14 : tie.Need-returns-14
+unfolding unlessDrawn refuse
 returns-14 c =
-    runs _ (c .before .before .before .before .before .before .before .before .before .args .t2) _ _ (search (needs, length-mapped, c .before .before .before .before .before .before .before .before .before .good)) (c .before .before .before .before .before .before .before .before .before .pre) _ (c .before .before .before .before .before .if1 .left) (c .before .before .before .before .class-at .ensures) (c .before .before .before .part-of .ensures) (c .before .before .instruction-at .ensures)
+    runs _ (c .before .before .before .before .before .before .before .before .before .args .t2) _ _ (search (needs, length-mapped, c .before .before .before .before .before .before .before .before .before .good)) (c .before .before .before .before .before .before .before .before .before .pre) _ (c .before .before .before .before .before .if1 .left) (c .before .before .before .before .class-at .ensures) (c .before .before .before .part-of .ensures .0) (c .before .before .instruction-at .ensures)
     (rw (c .enum-told5 .given .1))
 
 pub run-spec : {M : Type 1} → statement M

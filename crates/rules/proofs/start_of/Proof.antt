@@ -14,7 +14,7 @@ start-rule-requires c κs = search needs
 
 returns : tie.Need-returns
 unfolding programOf methodAt methodOf
-returns c = rw (← c .before .before .class-at .ensures, ← c .before .part-of .ensures) (c .start-rule .ensures)
+returns c = rw (← c .before .before .class-at .ensures, ← c .before .part-of .ensures .0) (c .start-rule .ensures)
 
 pub start-of-spec : {M : Type 1} → statement M
 start-of-spec = tie.close (tie.spec class-at-requires part-of-requires start-rule-requires returns)

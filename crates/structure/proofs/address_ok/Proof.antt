@@ -1,4 +1,3 @@
-use Rattle.bundle.specs.Container.{instructionAt}
 use Rattle.structure.specs.Conditions.{addressOk}
 use borrow.Author.Needs.{needs}
 use Rattle.structure.proofs.address_ok.Statement.{statement}
@@ -11,7 +10,7 @@ instruction-ok-requires : tie.Need-instruction-ok-requires
 instruction-ok-requires c κs = search needs
 
 returns : tie.Need-returns
-unfolding addressOk instructionAt
+unfolding addressOk
 returns c = rw (← c .before .code-at .ensures) (c .instruction-ok .ensures)
 
 pub address-ok-spec : {M : Type 1} → statement M

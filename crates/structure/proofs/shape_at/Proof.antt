@@ -1,4 +1,3 @@
-use Rattle.structure.specs.Structure.{shapeAt}
 use borrow.Author.Needs.{needs}
 use Rattle.structure.proofs.shape_at.Statement.{statement}
 use Rattle.structure.proofs.shape_at.Tie as tie
@@ -10,8 +9,7 @@ shape-of-requires : tie.Need-shape-of-requires
 shape-of-requires c κs = search needs
 
 returns : tie.Need-returns
-unfolding shapeAt
-returns c = rw (← c .before .class-at .ensures) (c .shape-of .ensures)
+returns c = c .shape-of .ensures
 
 pub shape-at-spec : {M : Type 1} → statement M
 shape-at-spec = tie.close (tie.spec class-at-requires shape-of-requires returns)

@@ -1,5 +1,5 @@
 use Rattle.ground.proofs.Chain.{stop, go}
-use Rattle.structure.specs.Structure.{tableAt}
+use Rattle.structure.specs.Loops.{tableAt}
 use borrow.Author.Needs.{needs}
 use Rattle.structure.proofs.table_at.Statement.{statement}
 use Rattle.structure.proofs.table_at.Tie as tie

@@ -4,7 +4,7 @@ use mathlib.Core.Bool.{not}
 use borrow.Author.Tests.{ne-eqb, eq-eqb}
 use Rattle.ground.specs.Chain.{scan}
 use Rattle.ground.proofs.Chain.{scan-zero, scan-next, scan-left, scan-done}
-use Rattle.structure.specs.Structure.{tableAt, tableOf}
+use Rattle.structure.specs.Loops.{tableAt}
 use Rattle.structure.specs.Verdicts.{isBad, pass}
 use borrow.Author.Needs.{needs}
 use Rattle.structure.proofs.table_of.Statement.{statement}
@@ -23,7 +23,6 @@ table-at-requires : tie.Need-table-at-requires Inv-loop μ-loop
 table-at-requires c κs = search needs
 
 returns : tie.Need-returns Inv-loop μ-loop
-unfolding tableOf
 returns c = scan-left _ _ refl _ _ _ (c .before .before .before .loop-test .taken) (c .before .before .before .before .loop .inv .1) (c .before .before .table-at .ensures) (ap not (ne-eqb _ _ (c .if1 .taken)))
 
 add-i : tie.Need-add-i Inv-loop μ-loop
@@ -36,7 +35,6 @@ loop-again : tie.Need-loop-again Inv-loop μ-loop
 loop-again c = (search needs, scan-next _ _ refl _ _ (c .before .before .before .before .loop .inv .1) (c .before .before .table-at .ensures) (ap not (eq-eqb _ _ (c .if1 .left))))
 
 returns-2 : tie.Need-returns-2 Inv-loop μ-loop
-unfolding tableOf
 returns-2 c = scan-done _ _ refl _ _ _ (c .before .loop .inv .0) (c .loop-test .left) (c .before .loop .inv .1)
 
 pub table-of-spec : {M : Type 1} → statement M

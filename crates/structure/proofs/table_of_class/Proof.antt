@@ -1,4 +1,4 @@
-use Rattle.structure.specs.Structure.{tableOfClass}
+use Rattle.structure.proofs.FirstBroken.{table-parts}
 use borrow.Author.Needs.{needs}
 use Rattle.structure.proofs.table_of_class.Statement.{statement}
 use Rattle.structure.proofs.table_of_class.Tie as tie
@@ -16,8 +16,7 @@ table-of-requires : tie.Need-table-of-requires
 table-of-requires c κs = search needs
 
 returns : tie.Need-returns
-unfolding tableOfClass
-returns c = rw (← c .before .before .before .class-at .ensures, ← c .before .before .classes .ensures, ← c .before .part-of .ensures) (c .table-of .ensures)
+returns c = rw (← table-parts _ _, ← c .before .before .before .class-at .ensures, ← c .before .before .classes .ensures, ← c .before .part-of .ensures .0) (c .table-of .ensures)
 
 pub table-of-class-spec : {M : Type 1} → statement M
 table-of-class-spec =

@@ -7,19 +7,19 @@ use native.Mathlib.Omega.{arith}
 use Rattle.ground.specs.Bounded.{setBelow}
 use Rattle.ground.proofs.Writes.{set-zero, set-more, set-past}
 use Rattle.values.specs.Values.{zeroSlot}
-use Rattle.threads.specs.Threads.{entryOf}
+use Rattle.threads.specs.Threads.{fromTop}
 use borrow.Author.Needs.{needs}
 use Rattle.threads.proofs.arguments.Statement.{statement}
 use Rattle.threads.proofs.arguments.Tie as tie
 
 abbrev Inv-loop : tie.InvT-loop
-Inv-loop n starter z next₀ d j₀ next j = (j ≤ n) × (next ≡ setBelow j (entryOf starter) (replicate 16 zeroSlot))
+Inv-loop n starter z next₀ d j₀ next j = (j ≤ n) × (next ≡ setBelow j (fromTop starter) (replicate 16 zeroSlot))
 
 abbrev μ-loop : tie.MeasureT-loop
 μ-loop n starter z next₀ d j₀ next j = n - j
 
 -- what the turn reads is the starter's entry
-read : (c : tie.Joined2 Inv-loop μ-loop) → c .if2 .x ≡ entryOf (c .before .before .before .before .before .before .args .t1) (c .before .before .before .before .loop .j)
+read : (c : tie.Joined2 Inv-loop μ-loop) → c .if2 .x ≡ fromTop (c .before .before .before .before .before .before .args .t1) (c .before .before .before .before .loop .j)
 read c =
     let t = c .before .before .before .before .before .before .args .t1 in
     let l : length (t .stack) ≡ 16 = search (needs, length-mapped) in

@@ -1,5 +1,5 @@
 use Rattle.ground.proofs.Chain.{stop, go}
-use Rattle.verifier.specs.Verdict.{formAt}
+use Rattle.verifier.specs.Loops.{formAt}
 use borrow.Author.Needs.{needs}
 use Rattle.verifier.proofs.form_at.Statement.{statement}
 use Rattle.verifier.proofs.form_at.Tie as tie

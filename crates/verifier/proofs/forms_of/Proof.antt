@@ -4,7 +4,7 @@ use mathlib.Core.Bool.{not}
 use borrow.Author.Tests.{ne-eqb, eq-eqb}
 use Rattle.ground.specs.Chain.{scan}
 use Rattle.ground.proofs.Chain.{scan-zero, scan-next, scan-left, scan-done}
-use Rattle.verifier.specs.Verdict.{formAt, formsOf}
+use Rattle.verifier.specs.Loops.{formAt}
 use Rattle.structure.specs.Verdicts.{isBad, pass}
 use borrow.Author.Needs.{needs}
 use Rattle.verifier.proofs.forms_of.Statement.{statement}
@@ -23,7 +23,6 @@ form-at-requires : tie.Need-form-at-requires Inv-loop μ-loop
 form-at-requires c κs = search needs
 
 returns : tie.Need-returns Inv-loop μ-loop
-unfolding formsOf
 returns c = scan-left _ _ refl _ _ _ (c .before .before .before .loop-test .taken) (c .before .before .before .before .loop .inv .1) (c .before .before .form-at .ensures) (ap not (ne-eqb _ _ (c .if1 .taken)))
 
 add-i : tie.Need-add-i Inv-loop μ-loop
@@ -36,7 +35,6 @@ loop-again : tie.Need-loop-again Inv-loop μ-loop
 loop-again c = (search needs, scan-next _ _ refl _ _ (c .before .before .before .before .loop .inv .1) (c .before .before .form-at .ensures) (ap not (eq-eqb _ _ (c .if1 .left))))
 
 returns-2 : tie.Need-returns-2 Inv-loop μ-loop
-unfolding formsOf
 returns-2 c = scan-done _ _ refl _ _ _ (c .before .loop .inv .0) (c .loop-test .left) (c .before .loop .inv .1)
 
 pub forms-of-spec : {M : Type 1} → statement M

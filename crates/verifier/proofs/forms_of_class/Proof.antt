@@ -1,4 +1,4 @@
-use Rattle.verifier.specs.Verdict.{formsOfClass}
+use Rattle.verifier.proofs.FirstBroken.{form-parts}
 use borrow.Author.Needs.{needs}
 use Rattle.verifier.proofs.forms_of_class.Statement.{statement}
 use Rattle.verifier.proofs.forms_of_class.Tie as tie
@@ -16,8 +16,7 @@ forms-of-requires : tie.Need-forms-of-requires
 forms-of-requires c κs = search needs
 
 returns : tie.Need-returns
-unfolding formsOfClass
-returns c = rw (← c .before .before .before .class-at .ensures, ← c .before .before .classes .ensures, ← c .before .part-of .ensures) (c .forms-of .ensures)
+returns c = rw (← form-parts _ _, ← c .before .before .before .class-at .ensures, ← c .before .before .classes .ensures, ← c .before .part-of .ensures .0) (c .forms-of .ensures)
 
 pub forms-of-class-spec : {M : Type 1} → statement M
 forms-of-class-spec =

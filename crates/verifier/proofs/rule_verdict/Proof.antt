@@ -1,4 +1,4 @@
-use Rattle.verifier.specs.Verdict.{ruleVerdict}
+use Rattle.verifier.specs.Loops.{ruleVerdict}
 use Rattle.rules.proofs.Judging.{ruling-holds, ruling-why}
 use Rattle.rules.specs.declared.Ruling.{Ruling}
 use Rattle.bundle.specs.Container.{instructionAt}

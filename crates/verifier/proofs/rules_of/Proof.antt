@@ -4,7 +4,7 @@ use mathlib.Core.Bool.{not}
 use borrow.Author.Tests.{ne-eqb, eq-eqb}
 use Rattle.ground.specs.Chain.{scan}
 use Rattle.ground.proofs.Chain.{scan-zero, scan-next, scan-left, scan-done}
-use Rattle.verifier.specs.Verdict.{ruleVerdict, rulesOf}
+use Rattle.verifier.specs.Loops.{ruleVerdict, rulesOf}
 use Rattle.structure.specs.Verdicts.{isBad, pass}
 use Rattle.ground.specs.Chain.{refuse}
 use Rattle.bundle.specs.Program.{programOf}

@@ -1,4 +1,4 @@
-use Rattle.verifier.specs.Verdict.{rulesOfClass}
+use Rattle.verifier.proofs.FirstBroken.{rule-parts}
 use borrow.Author.Needs.{needs}
 use Rattle.verifier.proofs.rules_of_class.Statement.{statement}
 use Rattle.verifier.proofs.rules_of_class.Tie as tie
@@ -16,8 +16,7 @@ rules-of-requires : tie.Need-rules-of-requires
 rules-of-requires c κs = search needs
 
 returns : tie.Need-returns
-unfolding rulesOfClass
-returns c = rw (← c .before .before .before .class-at .ensures, ← c .before .before .classes .ensures, ← c .before .part-of .ensures) (c .rules-of .ensures)
+returns c = rw (← rule-parts _ _, ← c .before .before .before .class-at .ensures, ← c .before .before .classes .ensures, ← c .before .part-of .ensures .0) (c .rules-of .ensures)
 
 pub rules-of-class-spec : {M : Type 1} → statement M
 rules-of-class-spec =

@@ -2,7 +2,7 @@ use borrow.Author.Tests.{ne-eqb, eq-eqb}
 use mathlib.Core.Bool.{not}
 use mathlib.Core.Path.{ap}
 use Rattle.ground.proofs.Chain.{then-stop, then-go}
-use Rattle.verifier.specs.Verdict.{verdictOf}
+use Rattle.verifier.proofs.FirstBroken.{verdict-parts}
 use borrow.Author.Needs.{needs}
 use Rattle.verifier.proofs.verify.Statement.{statement}
 use Rattle.verifier.proofs.verify.Tie as tie
@@ -11,34 +11,30 @@ structure-requires : tie.Need-structure-requires
 structure-requires c κs = search needs
 
 returns : tie.Need-returns
-unfolding verdictOf
-returns c = then-stop _ _ _ (c .before .before .structure .ensures) (ap not (ne-eqb _ _ (c .if1 .taken)))
+returns c = rw (verdict-parts _) (then-stop _ _ _ (c .before .before .structure .ensures) (ap not (ne-eqb _ _ (c .if1 .taken))))
 
 forms-of-all-requires : tie.Need-forms-of-all-requires
 forms-of-all-requires c κs = search needs
 
 returns-2 : tie.Need-returns-2
-unfolding verdictOf
-returns-2 c = then-go _ _ (c .before .before .before .before .before .structure .ensures) (ap not (eq-eqb _ _ (c .before .before .before .if1 .left)))
-    (then-stop _ _ _ (c .before .before .forms-of-all .ensures) (ap not (ne-eqb _ _ (c .if2 .taken))))
+returns-2 c = rw (verdict-parts _) (then-go _ _ (c .before .before .before .before .before .structure .ensures) (ap not (eq-eqb _ _ (c .before .before .before .if1 .left)))
+    (then-stop _ _ _ (c .before .before .forms-of-all .ensures) (ap not (ne-eqb _ _ (c .if2 .taken)))))
 
 rules-of-all-requires : tie.Need-rules-of-all-requires
 rules-of-all-requires c κs = search needs
 
 returns-3 : tie.Need-returns-3
-unfolding verdictOf
-returns-3 c = then-go _ _ (c .before .before .before .before .before .before .before .before .structure .ensures) (ap not (eq-eqb _ _ (c .before .before .before .before .before .before .if1 .left)))
+returns-3 c = rw (verdict-parts _) (then-go _ _ (c .before .before .before .before .before .before .before .before .structure .ensures) (ap not (eq-eqb _ _ (c .before .before .before .before .before .before .if1 .left)))
     (then-go _ _ (c .before .before .before .before .before .forms-of-all .ensures) (ap not (eq-eqb _ _ (c .before .before .before .if2 .left)))
-    (then-stop _ _ _ (c .before .before .rules-of-all .ensures) (ap not (ne-eqb _ _ (c .if3 .taken)))))
+    (then-stop _ _ _ (c .before .before .rules-of-all .ensures) (ap not (ne-eqb _ _ (c .if3 .taken))))))
 
 classes-requires : tie.Need-classes-requires
 classes-requires c κs = search needs
 
 returns-4 : tie.Need-returns-4
-unfolding verdictOf
-returns-4 c = then-go _ _ (c .before .before .before .before .before .before .before .before .before .structure .ensures) (ap not (eq-eqb _ _ (c .before .before .before .before .before .before .before .if1 .left)))
+returns-4 c = rw (verdict-parts _) (then-go _ _ (c .before .before .before .before .before .before .before .before .before .structure .ensures) (ap not (eq-eqb _ _ (c .before .before .before .before .before .before .before .if1 .left)))
     (then-go _ _ (c .before .before .before .before .before .before .forms-of-all .ensures) (ap not (eq-eqb _ _ (c .before .before .before .before .if2 .left)))
-    (then-go _ _ (c .before .before .before .rules-of-all .ensures) (ap not (eq-eqb _ _ (c .before .if3 .left))) (rw (c .classes .ensures))))
+    (then-go _ _ (c .before .before .before .rules-of-all .ensures) (ap not (eq-eqb _ _ (c .before .if3 .left))) (rw (c .classes .ensures)))))
 
 pub verify-spec : {M : Type 1} → statement M
 verify-spec =

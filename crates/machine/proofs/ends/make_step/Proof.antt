@@ -1,12 +1,12 @@
 use borrow.Author.Tests.{lt-ltb, le-ltb}
 use Rattle.ground.specs.Chain.{refuse}
-use Rattle.machine.specs.Instructions.{makeStep}
+use Rattle.machine.specs.Answers.{unlessDrawn}
 use borrow.Author.Needs.{needs}
 use Rattle.machine.proofs.ends.make_step.Statement.{statement}
 use Rattle.machine.proofs.ends.make_step.Tie as tie
 
 returns : tie.Need-returns
-unfolding makeStep refuse
+unfolding unlessDrawn refuse
 returns c = rw (le-ltb _ _ (c .if1 .taken))
 
 ref-slot-requires : tie.Need-ref-slot-requires
@@ -18,15 +18,12 @@ push-requires c κs = search needs
 add-object-requires : tie.Need-add-object-requires
 add-object-requires c κs = search needs
 
-add-t10 : tie.Need-add-t10
-add-t10 c = search needs
-
-went-to-requires : tie.Need-went-to-requires
-went-to-requires c κs = search needs
+went-on-requires : tie.Need-went-on-requires
+went-on-requires c κs = search needs
 
 returns-2 : tie.Need-returns-2
-unfolding makeStep refuse
-returns-2 c = rw (c .went-to .ensures, c .before .before .add-object .ensures, c .before .before .before .push .ensures, c .before .before .before .before .ref-slot .ensures, lt-ltb _ _ (c .before .before .before .before .before .if1 .left))
+unfolding unlessDrawn refuse
+returns-2 c = rw (c .went-on .ensures, c .before .add-object .ensures, c .before .before .push .ensures, c .before .before .before .ref-slot .ensures, lt-ltb _ _ (c .before .before .before .before .if1 .left))
 
 pub make-step-spec : {M : Type 1} → statement M
 make-step-spec =
@@ -36,6 +33,5 @@ make-step-spec =
     ref-slot-requires
     push-requires
     add-object-requires
-    add-t10
-    went-to-requires
+    went-on-requires
     returns-2)

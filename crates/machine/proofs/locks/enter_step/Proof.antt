@@ -1,5 +1,7 @@
+use borrow.Author.Tests.{lt-ltb, le-ltb}
+use Rattle.ground.proofs.Bools.{passed, failed}
 use Rattle.ground.specs.Chain.{refuse}
-use Rattle.machine.specs.Instructions.{enterStep}
+use Rattle.machine.specs.Answers.{unlessDrawn}
 use borrow.Author.Needs.{needs}
 use Rattle.machine.proofs.locks.enter_step.Statement.{statement}
 use Rattle.machine.proofs.locks.enter_step.Tie as tie
@@ -11,18 +13,38 @@ is-int-requires : tie.Need-is-int-requires
 is-int-requires c κs = search needs
 
 returns : tie.Need-returns
-unfolding enterStep refuse
+unfolding unlessDrawn refuse
 returns c = rw (rw (c .before .is-int .ensures, c .before .before .var .ensures) at (c .if1 .taken))
 
 object-of-requires : tie.Need-object-of-requires
 object-of-requires c κs = search needs
 
-enter-object-requires : tie.Need-enter-object-requires
-enter-object-requires c κs = search needs
+count-requires : tie.Need-count-requires
+count-requires c κs = search needs
 
 returns-2 : tie.Need-returns-2
-unfolding enterStep refuse
-returns-2 c = rw (c .enter-object .ensures, c .before .object-of .ensures, c .before .before .before .before .var .ensures, rw (c .before .before .before .is-int .ensures, c .before .before .before .before .var .ensures) at (c .before .before .if1 .left))
+unfolding unlessDrawn refuse
+returns-2 c = rw (← c .before .before .before .before .before .before .before .before .var .ensures, ← c .before .before .before .before .before .before .before .is-int .ensures, c .before .before .before .before .before .before .if1 .left, ← c .before .before .before .before .before .object-of .ensures, ← c .before .count .ensures, le-ltb _ _ (c .if2 .taken))
+
+others-free-requires : tie.Need-others-free-requires
+others-free-requires c κs = search needs
+
+returns-3 : tie.Need-returns-3
+unfolding unlessDrawn refuse
+returns-3 c = rw (← c .before .before .before .before .before .before .before .before .before .before .before .before .before .var .ensures, ← c .before .before .before .before .before .before .before .before .before .before .before .before .is-int .ensures, c .before .before .before .before .before .before .before .before .before .before .before .if1 .left, ← c .before .before .before .before .before .before .before .before .before .before .object-of .ensures, ← c .before .before .before .before .before .before .count .ensures, lt-ltb _ _ (c .before .before .before .before .before .if2 .left), failed (c .before .others-free .ensures) (c .if3 .taken))
+
+add-put-count : tie.Need-add-put-count
+add-put-count c = search needs
+
+put-count-requires : tie.Need-put-count-requires
+put-count-requires c κs = search needs
+
+went-on-requires : tie.Need-went-on-requires
+went-on-requires c κs = search needs
+
+returns-4 : tie.Need-returns-4
+unfolding unlessDrawn refuse
+returns-4 c = rw (c .went-on .ensures, c .before .put-count .ensures, ← c .before .before .before .before .before .before .before .before .before .before .before .before .before .before .before .var .ensures, ← c .before .before .before .before .before .before .before .before .before .before .before .before .before .before .is-int .ensures, c .before .before .before .before .before .before .before .before .before .before .before .before .before .if1 .left, ← c .before .before .before .before .before .before .before .before .before .before .before .before .object-of .ensures, ← c .before .before .before .before .before .before .before .before .count .ensures, lt-ltb _ _ (c .before .before .before .before .before .before .before .if2 .left), passed (c .before .before .before .others-free .ensures) (c .before .before .if3 .left))
 
 pub enter-step-spec : {M : Type 1} → statement M
 enter-step-spec =
@@ -32,5 +54,11 @@ enter-step-spec =
     is-int-requires
     returns
     object-of-requires
-    enter-object-requires
-    returns-2)
+    count-requires
+    returns-2
+    others-free-requires
+    returns-3
+    add-put-count
+    put-count-requires
+    went-on-requires
+    returns-4)

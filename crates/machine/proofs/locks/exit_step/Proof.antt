@@ -1,5 +1,6 @@
+use borrow.Author.Tests.{lt-ltb, le-ltb}
 use Rattle.ground.specs.Chain.{refuse}
-use Rattle.machine.specs.Instructions.{exitStep}
+use Rattle.machine.specs.Answers.{unlessDrawn}
 use borrow.Author.Needs.{needs}
 use Rattle.machine.proofs.locks.exit_step.Statement.{statement}
 use Rattle.machine.proofs.locks.exit_step.Tie as tie
@@ -11,18 +12,31 @@ is-int-requires : tie.Need-is-int-requires
 is-int-requires c κs = search needs
 
 returns : tie.Need-returns
-unfolding exitStep refuse
+unfolding unlessDrawn refuse
 returns c = rw (rw (c .before .is-int .ensures, c .before .before .var .ensures) at (c .if1 .taken))
 
 object-of-requires : tie.Need-object-of-requires
 object-of-requires c κs = search needs
 
-exit-object-requires : tie.Need-exit-object-requires
-exit-object-requires c κs = search needs
+count-requires : tie.Need-count-requires
+count-requires c κs = search needs
 
 returns-2 : tie.Need-returns-2
-unfolding exitStep refuse
-returns-2 c = rw (c .exit-object .ensures, c .before .object-of .ensures, c .before .before .before .before .var .ensures, rw (c .before .before .before .is-int .ensures, c .before .before .before .before .var .ensures) at (c .before .before .if1 .left))
+unfolding unlessDrawn refuse
+returns-2 c = rw (← c .before .before .before .before .before .before .before .before .var .ensures, ← c .before .before .before .before .before .before .before .is-int .ensures, c .before .before .before .before .before .before .if1 .left, ← c .before .before .before .before .before .object-of .ensures, ← c .before .count .ensures, le-ltb _ _ (c .if2 .taken))
+
+sub-put-count : tie.Need-sub-put-count
+sub-put-count c = search needs
+
+put-count-requires : tie.Need-put-count-requires
+put-count-requires c κs = search needs
+
+went-on-requires : tie.Need-went-on-requires
+went-on-requires c κs = search needs
+
+returns-3 : tie.Need-returns-3
+unfolding unlessDrawn refuse
+returns-3 c = rw (c .went-on .ensures, c .before .put-count .ensures, ← c .before .before .before .before .before .before .before .before .before .before .var .ensures, ← c .before .before .before .before .before .before .before .before .before .is-int .ensures, c .before .before .before .before .before .before .before .before .if1 .left, ← c .before .before .before .before .before .before .before .object-of .ensures, ← c .before .before .before .count .ensures, lt-ltb _ _ (c .before .before .if2 .left))
 
 pub exit-step-spec : {M : Type 1} → statement M
 exit-step-spec =
@@ -32,5 +46,9 @@ exit-step-spec =
     is-int-requires
     returns
     object-of-requires
-    exit-object-requires
-    returns-2)
+    count-requires
+    returns-2
+    sub-put-count
+    put-count-requires
+    went-on-requires
+    returns-3)

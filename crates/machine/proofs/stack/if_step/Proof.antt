@@ -1,13 +1,13 @@
 use borrow.Author.Tests.{lt-leb, le-leb}
 use Rattle.ground.proofs.Bools.{passed, failed}
 use Rattle.ground.specs.Chain.{refuse}
-use Rattle.machine.specs.Instructions.{ifStep}
+use Rattle.machine.specs.Answers.{unlessDrawn}
 use borrow.Author.Needs.{needs}
 use Rattle.machine.proofs.stack.if_step.Statement.{statement}
 use Rattle.machine.proofs.stack.if_step.Tie as tie
 
 returns : tie.Need-returns
-unfolding ifStep refuse
+unfolding unlessDrawn refuse
 returns c = rw (lt-leb _ _ (c .if1 .taken))
 
 top-requires : tie.Need-top-requires
@@ -17,7 +17,7 @@ is-int-requires : tie.Need-is-int-requires
 is-int-requires c κs = search needs
 
 returns-2 : tie.Need-returns-2
-unfolding ifStep refuse
+unfolding unlessDrawn refuse
 returns-2 c = rw (le-leb _ _ (c .before .before .before .if1 .left), rw (c .before .before .top .ensures) at (failed (c .before .is-int .ensures) (c .if2 .taken)))
 
 pop-requires : tie.Need-pop-requires
@@ -30,18 +30,15 @@ went-to-requires : tie.Need-went-to-requires
 went-to-requires c κs = search needs
 
 returns-3 : tie.Need-returns-3
-unfolding ifStep refuse
+unfolding unlessDrawn refuse
 returns-3 c = rw (c .went-to .ensures, c .before .before .before .pop .ensures, le-leb _ _ (c .before .before .before .before .before .before .before .if1 .left), rw (c .before .before .before .before .before .before .top .ensures) at (passed (c .before .before .before .before .before .is-int .ensures) (c .before .before .before .before .if2 .left)), rw (c .before .before .jumps .ensures, c .before .before .before .before .before .before .top .ensures) at (c .before .if3 .taken))
 
-add-t10 : tie.Need-add-t10
-add-t10 c = search needs
-
-went-to-requires-2 : tie.Need-went-to-requires-2
-went-to-requires-2 c κs = search needs
+went-on-requires : tie.Need-went-on-requires
+went-on-requires c κs = search needs
 
 returns-4 : tie.Need-returns-4
-unfolding ifStep refuse
-returns-4 c = rw (c .went-to2 .ensures, c .before .before .before .before .pop .ensures, le-leb _ _ (c .before .before .before .before .before .before .before .before .if1 .left), rw (c .before .before .before .before .before .before .before .top .ensures) at (passed (c .before .before .before .before .before .before .is-int .ensures) (c .before .before .before .before .before .if2 .left)), rw (c .before .before .before .jumps .ensures, c .before .before .before .before .before .before .before .top .ensures) at (c .before .before .if3 .left))
+unfolding unlessDrawn refuse
+returns-4 c = rw (c .went-on .ensures, c .before .before .before .pop .ensures, le-leb _ _ (c .before .before .before .before .before .before .before .if1 .left), rw (c .before .before .before .before .before .before .top .ensures) at (passed (c .before .before .before .before .before .is-int .ensures) (c .before .before .before .before .if2 .left)), rw (c .before .before .jumps .ensures, c .before .before .before .before .before .before .top .ensures) at (c .before .if3 .left))
 
 pub if-step-spec : {M : Type 1} → statement M
 if-step-spec =
@@ -55,6 +52,5 @@ if-step-spec =
     jumps-requires
     went-to-requires
     returns-3
-    add-t10
-    went-to-requires-2
+    went-on-requires
     returns-4)

@@ -1,13 +1,13 @@
 use borrow.Author.Tests.{lt-leb, le-leb}
 use Rattle.ground.proofs.Bools.{passed, failed}
 use Rattle.ground.specs.Chain.{refuse}
-use Rattle.machine.specs.Instructions.{incStep}
+use Rattle.machine.specs.Answers.{unlessDrawn}
 use borrow.Author.Needs.{needs}
 use Rattle.machine.proofs.stack.inc_step.Statement.{statement}
 use Rattle.machine.proofs.stack.inc_step.Tie as tie
 
 returns : tie.Need-returns
-unfolding incStep refuse
+unfolding unlessDrawn refuse
 returns c = rw (lt-leb _ _ (c .if1 .taken))
 
 top-requires : tie.Need-top-requires
@@ -17,7 +17,7 @@ is-int-requires : tie.Need-is-int-requires
 is-int-requires c κs = search needs
 
 returns-2 : tie.Need-returns-2
-unfolding incStep refuse
+unfolding unlessDrawn refuse
 returns-2 c = rw (le-leb _ _ (c .before .before .before .if1 .left), rw (c .before .before .top .ensures) at (failed (c .before .is-int .ensures) (c .if2 .taken)))
 
 inc-slot-requires : tie.Need-inc-slot-requires
@@ -26,15 +26,12 @@ inc-slot-requires c κs = search needs
 set-top-requires : tie.Need-set-top-requires
 set-top-requires c κs = search needs
 
-add-t9 : tie.Need-add-t9
-add-t9 c = search needs
-
-went-to-requires : tie.Need-went-to-requires
-went-to-requires c κs = search needs
+went-on-requires : tie.Need-went-on-requires
+went-on-requires c κs = search needs
 
 returns-3 : tie.Need-returns-3
-unfolding incStep refuse
-returns-3 c = rw (c .went-to .ensures, c .before .before .set-top .ensures, c .before .before .before .inc-slot .ensures, c .before .before .before .before .before .before .top .ensures, le-leb _ _ (c .before .before .before .before .before .before .before .if1 .left), rw (c .before .before .before .before .before .before .top .ensures) at (passed (c .before .before .before .before .before .is-int .ensures) (c .before .before .before .before .if2 .left)))
+unfolding unlessDrawn refuse
+returns-3 c = rw (c .went-on .ensures, c .before .set-top .ensures, c .before .before .inc-slot .ensures, c .before .before .before .before .before .top .ensures, le-leb _ _ (c .before .before .before .before .before .before .if1 .left), rw (c .before .before .before .before .before .top .ensures) at (passed (c .before .before .before .before .is-int .ensures) (c .before .before .before .if2 .left)))
 
 pub inc-step-spec : {M : Type 1} → statement M
 inc-step-spec =
@@ -46,6 +43,5 @@ inc-step-spec =
     returns-2
     inc-slot-requires
     set-top-requires
-    add-t9
-    went-to-requires
+    went-on-requires
     returns-3)

@@ -1,12 +1,12 @@
 use borrow.Author.Tests.{lt-ltb, le-ltb}
 use Rattle.ground.specs.Chain.{refuse}
-use Rattle.machine.specs.Instructions.{loadStep}
+use Rattle.machine.specs.Answers.{unlessDrawn}
 use borrow.Author.Needs.{needs}
 use Rattle.machine.proofs.stack.load_step.Statement.{statement}
 use Rattle.machine.proofs.stack.load_step.Tie as tie
 
 returns : tie.Need-returns
-unfolding loadStep refuse
+unfolding unlessDrawn refuse
 returns c = rw (le-ltb _ _ (c .if1 .taken))
 
 var-requires : tie.Need-var-requires
@@ -15,16 +15,12 @@ var-requires c κs = search needs
 push-requires : tie.Need-push-requires
 push-requires c κs = search needs
 
-add-t9 : tie.Need-add-t9
-add-t9 c = search needs
-
-went-to-requires : tie.Need-went-to-requires
-went-to-requires c κs = search needs
+went-on-requires : tie.Need-went-on-requires
+went-on-requires c κs = search needs
 
 returns-2 : tie.Need-returns-2
-unfolding loadStep refuse
-returns-2 c = rw (c .went-to .ensures, c .before .before .push .ensures, c .before .before .before .var .ensures, lt-ltb _ _ (c .before .before .before .before .if1 .left))
+unfolding unlessDrawn refuse
+returns-2 c = rw (c .went-on .ensures, c .before .push .ensures, c .before .before .var .ensures, lt-ltb _ _ (c .before .before .before .if1 .left))
 
 pub load-step-spec : {M : Type 1} → statement M
-load-step-spec =
-    tie.close (tie.spec returns var-requires push-requires add-t9 went-to-requires returns-2)
+load-step-spec = tie.close (tie.spec returns var-requires push-requires went-on-requires returns-2)

@@ -5,7 +5,7 @@ use Rattle.ground.specs.Bytes.{at}
 use Rattle.ground.specs.Bounded.{allBelow}
 use Rattle.ground.proofs.Bounded.{all-zero, all-more, all-stop, all-done}
 use Rattle.ground.proofs.Bools.{passed, failed}
-use Rattle.machine.specs.Instructions.{argumentAt, argumentsOk}
+use Rattle.machine.specs.Faults.{argumentAt, argumentsOk}
 use borrow.Author.Needs.{needs}
 use Rattle.machine.proofs.starts.arguments_ok.Statement.{statement}
 use Rattle.machine.proofs.starts.arguments_ok.Tie as tie
@@ -35,15 +35,15 @@ loop-less c = search needs
 loop-again : tie.Need-loop-again Inv-loop μ-loop
 loop-again c = (search needs, all-more _ _ (c .before .before .before .loop .inv .1) (passed (c .before .argument-at .ensures) (c .if1 .left)))
 
-entry-requires : tie.Need-entry-requires Inv-loop μ-loop
-entry-requires c κs = search needs
+from-top-requires : tie.Need-from-top-requires Inv-loop μ-loop
+from-top-requires c κs = search needs
 
 is-object-requires : tie.Need-is-object-requires Inv-loop μ-loop
 is-object-requires c κs = search needs
 
 returns-2 : tie.Need-returns-2 Inv-loop μ-loop
 unfolding argumentsOk
-returns-2 c = rw (c .is-object .ensures, c .before .entry .ensures, sym (all-done _ _ _ (c .before .before .before .loop .inv .0) (c .before .before .loop-test .left) (c .before .before .before .loop .inv .1)))
+returns-2 c = rw (c .is-object .ensures, c .before .from-top .ensures, sym (all-done _ _ _ (c .before .before .before .loop .inv .0) (c .before .before .loop-test .left) (c .before .before .before .loop .inv .1)))
 
 pub arguments-ok-spec : {M : Type 1} → statement M
 arguments-ok-spec =
@@ -57,6 +57,6 @@ arguments-ok-spec =
     add-j
     loop-less
     loop-again
-    entry-requires
+    from-top-requires
     is-object-requires
     returns-2)

@@ -1,5 +1,5 @@
 use borrow.Author.Tests.{eq-eqb, ne-eqb}
-use Rattle.machine.specs.Instructions.{isArgument}
+use Rattle.machine.specs.Faults.{isArgument}
 use borrow.Author.Needs.{needs}
 use Rattle.machine.proofs.starts.is_argument.Statement.{statement}
 use Rattle.machine.proofs.starts.is_argument.Tie as tie

@@ -14,7 +14,7 @@ start-step-requires c κs = search needs
 
 returns : tie.Need-returns
 unfolding methodAt methodOf
-returns c = rw (c .start-step .ensures, c .before .part-of .ensures, c .before .before .class-at .ensures)
+returns c = rw (c .start-step .ensures, c .before .part-of .ensures .0, c .before .before .class-at .ensures)
 
 pub start-class-spec : {M : Type 1} → statement M
 start-class-spec =

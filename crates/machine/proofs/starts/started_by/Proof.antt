@@ -1,4 +1,3 @@
-use Rattle.machine.specs.Instructions.{startedBy}
 use borrow.Author.Needs.{needs}
 use Rattle.machine.proofs.starts.started_by.Statement.{statement}
 use Rattle.machine.proofs.starts.started_by.Tie as tie
@@ -18,15 +17,11 @@ add-pop c = search needs
 pop-requires : tie.Need-pop-requires
 pop-requires c κs = search needs
 
-add-t11 : tie.Need-add-t11
-add-t11 c = search needs
-
-went-to-requires : tie.Need-went-to-requires
-went-to-requires c κs = search needs
+went-on-requires : tie.Need-went-on-requires
+went-on-requires c κs = search needs
 
 returns : tie.Need-returns
-unfolding startedBy
-returns c = rw (c .went-to .ensures, c .before .before .before .put-thread .ensures, c .before .before .before .before .start .ensures, c .before .before .before .before .before .thread .ensures, c .before .before .pop .ensures)
+returns c = rw (c .went-on .ensures, c .before .before .put-thread .ensures, c .before .before .before .start .ensures, c .before .before .before .before .thread .ensures, c .before .pop .ensures)
 
 pub started-by-spec : {M : Type 1} → statement M
 started-by-spec =
@@ -37,6 +32,5 @@ started-by-spec =
     put-thread-requires
     add-pop
     pop-requires
-    add-t11
-    went-to-requires
+    went-on-requires
     returns)

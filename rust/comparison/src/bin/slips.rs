@@ -1,0 +1,92 @@
+//! Shows that the generated inputs notice every slip.
+//!
+//! For a verifier's slip: a bundle that only the slipped verifier accepts,
+//! and a schedule on which the true machine then draws the fault that the
+//! slip leads to. For a machine's slip: an accepted bundle and a schedule on
+//! which the slipped machine answers otherwise than the true one.
+
+use generator::families::typed;
+use generator::rng::Rng;
+use generator::schedule::Scheduler;
+use reference::bundle::Bundle;
+use reference::machine::{answer, fresh, step_in};
+use reference::slips::Slip;
+use reference::verify::verify;
+use std::process::ExitCode;
+
+const BUNDLES: u64 = 20_000;
+const SCHEDULES: u64 = 20;
+const STEPS: usize = 400;
+
+fn main() -> ExitCode {
+    let verifier = Slip::VERIFIER.map(|slip| (slip, (0..BUNDLES).find_map(|s| caught(slip, s))));
+    let machine = Slip::MACHINE.map(|slip| (slip, (0..BUNDLES).find_map(|s| differs(slip, s))));
+    let mut all_found = true;
+    for (slip, found) in verifier.into_iter().chain(machine) {
+        all_found &= found.is_some();
+        println!("{slip:?}: {}", found.unwrap_or("not found".to_string()));
+    }
+    if all_found {
+        ExitCode::SUCCESS
+    } else {
+        ExitCode::FAILURE
+    }
+}
+
+fn caught(slip: Slip, seed: u64) -> Option<String> {
+    let b = typed::tempting(&mut Rng::new(seed), slip);
+    let truth = verify(&b);
+    if truth.number == 0 || slip.verify(&b).number != 0 {
+        return None;
+    }
+    let (schedule, (step, fault)) = (0..SCHEDULES)
+        .filter_map(|s| Some((s, fault(&b, s)?)))
+        .find(|&(_, (_, fault))| Some(fault) == slip.fault())?;
+    Some(format!(
+        "seed {seed} {truth}, schedule {schedule} step {step} fault {fault}"
+    ))
+}
+
+/// The first fault of the true machine on this schedule.
+fn fault(b: &[u8], seed: u64) -> Option<(usize, u8)> {
+    let bundle = Bundle::open_with_code(b).ok()?;
+    let mut scheduler = Scheduler::new(seed);
+    let mut state = fresh(b).1;
+    (1..=STEPS).find_map(|number| {
+        let turn = scheduler.turn(&state);
+        let given = step_in(&bundle, &mut state, turn.thread(), turn.fails());
+        (answer::STACK_SHORT..=answer::COUNT_FULL)
+            .contains(&given)
+            .then_some((number, given))
+    })
+}
+
+fn differs(slip: Slip, seed: u64) -> Option<String> {
+    let b = typed::well_typed(&mut Rng::new(seed));
+    if verify(&b).number != 0 {
+        return None;
+    }
+    let (schedule, (step, slipped, truth)) =
+        (0..SCHEDULES).find_map(|s| Some((s, difference(&b, slip, s)?)))?;
+    Some(format!(
+        "seed {seed} accepted, schedule {schedule} step {step} answers {slipped} for {truth}"
+    ))
+}
+
+/// The first step where the slipped machine, run alongside, answers otherwise.
+/// That it soon finds its own states foreign (18) doesn't count: any look at
+/// the state would show that, and the slip should be seen at a lock.
+fn difference(b: &[u8], slip: Slip, seed: u64) -> Option<(usize, u8, u8)> {
+    let bundle = Bundle::open_with_code(b).ok()?;
+    let mut scheduler = Scheduler::new(seed);
+    let (mut state, mut slipped) = (fresh(b).1, fresh(b).1);
+    (1..=STEPS)
+        .find_map(|number| {
+            let turn = scheduler.turn(&state);
+            let (thread, fails) = (turn.thread(), turn.fails());
+            let truth = step_in(&bundle, &mut state, thread, fails);
+            let other = slip.step(&bundle, &mut slipped, thread, fails);
+            (truth != other).then_some((number, other, truth))
+        })
+        .filter(|&(_, other, _)| other != answer::BAD_STATE)
+}

@@ -1,0 +1,165 @@
+//! Both machines on the same schedules from the fresh state: every answer.
+
+use crate::digest::mixed;
+use crate::{proved, Answers, Differences, Part};
+use generator::families::{self, contending, typed};
+use generator::lively::Lively;
+use generator::rng::Rng;
+use generator::schedule::Scheduler;
+use reference::machine::{answer, fresh};
+use reference::state::THREADS;
+use trace::Turn;
+
+/// In schedules of threads that want the same locks, one step in so many
+/// waits at least.
+const STEPS_A_WAIT: u64 = 20;
+
+#[derive(Debug, Default)]
+pub struct Runs {
+    schedules: u64,
+    /// Schedules whose bundle can be run at all.
+    running: u64,
+    steps: u64,
+    answers: Answers,
+    contention: Contention,
+    /// Runs in which a handler was entered, by athrow and by a failed new.
+    caught_athrow: u64,
+    caught_new: u64,
+    /// Threads started with more than three arguments.
+    started_with_many: u64,
+    /// Steps of a number that no thread has.
+    beyond: u64,
+    differences: Differences,
+}
+
+/// Schedules of threads that want the same locks.
+#[derive(Debug, Default)]
+struct Contention {
+    schedules: u64,
+    steps: u64,
+    waits: u64,
+}
+
+impl Contention {
+    fn add(&mut self, run: &Lively) {
+        let waits = |answers: &[u8]| answers.iter().filter(|&&a| a == answer::HELD).count();
+        self.schedules += 1;
+        self.steps += run.answers.len() as u64;
+        self.waits += waits(&run.answers) as u64;
+    }
+
+    /// The waits, if there are enough of them.
+    fn enough(&self) -> u64 {
+        match self.waits * STEPS_A_WAIT >= self.steps {
+            true => self.waits,
+            false => 0,
+        }
+    }
+}
+
+/// A bundle, and how it was run.
+fn run(seed: u64) -> (Vec<u8>, Lively, bool) {
+    let mut rng = Rng::new(!seed);
+    let contends = seed.is_multiple_of(8);
+    let bundle = match seed % 3 {
+        _ if contends => contending::contending(&mut rng).lay_out(),
+        0 => families::bundle(seed).1,
+        _ => typed::well_typed(&mut rng),
+    };
+    let steps = match rng.below(10) {
+        0 => rng.below(4),
+        1 => rng.between(300, 1_000),
+        _ => rng.between(10, 200),
+    };
+    let (_, state) = fresh(&bundle);
+    let scheduler = match contends {
+        true => Scheduler::restless(rng.number()),
+        false => Scheduler::new(rng.number()),
+    };
+    let run = Lively::follow(&mut rng, &bundle, state, scheduler, steps);
+    (bundle, run, contends)
+}
+
+impl Runs {
+    fn count(&mut self, run: &Lively) {
+        self.schedules += 1;
+        self.steps += run.schedule.len() as u64;
+        run.answers
+            .iter()
+            .for_each(|&given| self.answers.add(given));
+        self.caught_athrow += u64::from(run.caught_athrow);
+        self.caught_new += u64::from(run.caught_new);
+        self.started_with_many += run.started_with_many;
+        let beyond = |&&byte: &&u8| usize::from(Turn(byte).thread()) >= THREADS;
+        self.beyond += run.schedule.iter().filter(beyond).count() as u64;
+    }
+}
+
+impl Part for Runs {
+    /// Well-typed bundles, any bundle, and threads that want the same locks.
+    fn generated(&mut self, seed: u64) {
+        let (bundle, run, contends) = run(seed);
+        let (first, _) = fresh(&bundle);
+        let answers = run.answers.iter();
+        let reference = answers.fold(u64::from(first), |d, &a| mixed(d, a));
+        let proved = proved::digest(&bundle, &run.schedule);
+        if proved != reference {
+            let what =
+                format!("schedule seed {seed}: proved digest {proved}, reference {reference}");
+            self.differences.add(what, &[&bundle, &run.schedule]);
+        }
+        self.running += u64::from(first == answer::WENT_ON);
+        self.count(&run);
+        if contends {
+            self.contention.add(&run);
+        }
+    }
+
+    fn print(&self) {
+        println!(
+            "schedules {} ({} of bundles that run), {} steps",
+            self.schedules, self.running, self.steps
+        );
+        println!("  steps by answer: {}", self.answers.text());
+        println!(
+            "  runs that entered a handler: {} by athrow, {} by a failed new",
+            self.caught_athrow, self.caught_new
+        );
+        println!(
+            "  threads started with more than three arguments: {}",
+            self.started_with_many
+        );
+        println!("  steps of thread numbers 8 to 15: {}", self.beyond);
+        let Contention {
+            schedules,
+            steps,
+            waits,
+        } = self.contention;
+        println!("  schedules of threads that want the same locks: {schedules}, {steps} steps, {waits} of them waits");
+        println!("  differences: {}", self.differences.0);
+    }
+
+    fn differences(&self) -> u64 {
+        self.differences.0
+    }
+
+    fn seen(&self) -> Vec<(String, u64)> {
+        // A schedule is too short for 16, and a fresh machine never draws 18.
+        let mut seen = self.answers.seen((0..=5).chain(11..=15).chain([17]));
+        let named = [
+            ("a handler entered by athrow", self.caught_athrow),
+            ("a handler entered by a failed new", self.caught_new),
+            (
+                "a start with more than three arguments",
+                self.started_with_many,
+            ),
+            ("a thread number above 7", self.beyond),
+            (
+                "waits, one step in twenty where threads want the same locks",
+                self.contention.enough(),
+            ),
+        ];
+        seen.extend(named.map(|(what, count)| (what.to_string(), count)));
+        seen
+    }
+}

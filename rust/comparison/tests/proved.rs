@@ -1,0 +1,93 @@
+//! The proved code behind its C calls, on the cases of document 01.
+
+use comparison::{digest, proved};
+use generator::builder::{case_a, lay_out, Method, Row};
+use generator::families::{self, typed};
+use generator::rng::Rng;
+use generator::schedule::schedule;
+use reference::bundle::{Addr, Instr, Verdict};
+use reference::entries::Entry;
+use reference::machine::fresh;
+use reference::slips::Slip;
+
+#[test]
+fn cases_a_b_c_and_l() {
+    let mut method = case_a();
+    assert_eq!(
+        proved::verdict(&lay_out(&[method.clone()])),
+        Verdict::new(0, 1, 0)
+    );
+    method.code[4] = Instr::If(Addr(9));
+    assert_eq!(
+        proved::verdict(&lay_out(&[method.clone()])),
+        Verdict::new(9, 0, 5).because(3)
+    );
+    method.rows[8].variables[0] = Entry::reference(0, 1, -1);
+    assert_eq!(
+        proved::verdict(&lay_out(&[method])),
+        Verdict::new(9, 0, 8).because(2)
+    );
+    assert_eq!(proved::verdict(&[]), Verdict::new(1, 0, 0));
+}
+
+#[test]
+fn a_run_of_case_a() {
+    let bundle = lay_out(&[case_a()]);
+    // Seven steps end thread 0, the eighth finds it not live: 0 * 5, 1, 5.
+    assert_eq!(proved::digest(&bundle, &[0; 8]), 31 + 5);
+    assert_eq!(digest::of_run(&bundle, &[0; 8]), 31 + 5);
+    // The first new fails: 2 for the thread that ends, then 5.
+    assert_eq!(proved::digest(&bundle, &[0x80, 0]), 2 * 31 + 5);
+    // No bundle: 17 from the fresh machine, and again from a step.
+    assert_eq!(proved::digest(&[], &[0]), 17 * 31 + 17);
+}
+
+/// A failed new finds its handler, which drops what was thrown and returns.
+#[test]
+fn a_thrown_object() {
+    let method = Method {
+        stack_limit: 1,
+        code: vec![Instr::New(0, Some(Addr(2))), Instr::Pop, Instr::Return],
+        rows: vec![
+            Row::new(&[], &[]),
+            Row::new(&[], &[Entry::fresh(0)]),
+            Row::new(&[], &[]),
+        ],
+        ..Method::default()
+    };
+    let mut bundle = lay_out(&[method]);
+    assert_eq!(proved::verdict(&bundle), Verdict::new(0, 1, 0));
+    assert_eq!(proved::digest(&bundle, &[0x80, 0, 0, 0]), 31 + 5);
+    // The spare byte names a class that isn't there.
+    let spare = bundle.len() - 5;
+    bundle[spare] = 1;
+    assert_eq!(proved::verdict(&bundle), Verdict::new(3, 0, 0));
+}
+
+/// Were one side to make a slip, the comparison would show it.
+#[test]
+fn a_slipped_verifier_differs_from_the_proved_one() {
+    let mut differing = Slip::VERIFIER.map(|slip| (slip, 0));
+    for seed in 0..8_000 {
+        let (_, b) = families::bundle(seed);
+        let proved = proved::verdict(&b);
+        for (slip, count) in &mut differing {
+            *count += usize::from(slip.verify(&b) != proved);
+        }
+    }
+    assert!(differing.iter().all(|&(_, n)| n >= 10), "{differing:?}");
+}
+
+#[test]
+fn a_slipped_machine_differs_from_the_proved_one() {
+    for slip in Slip::MACHINE {
+        let differing = (0..1_000)
+            .filter(|&seed| {
+                let b = typed::well_typed(&mut Rng::new(seed));
+                let turns = schedule(&b, &fresh(&b).1, seed, 100);
+                digest::of_slipped_run(&b, &turns, slip) != proved::digest(&b, &turns)
+            })
+            .count();
+        assert!(differing >= 10, "{slip:?}: {differing}");
+    }
+}

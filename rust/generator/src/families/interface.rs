@@ -1,0 +1,103 @@
+//! What the methods of a bundle know of each other.
+
+use super::random;
+use crate::rng::Rng;
+use reference::bundle::INT;
+use reference::entries::Entry;
+
+/// More arguments than this are rare in other tests, and are counted.
+pub const FEW_ARGUMENTS: usize = 3;
+
+#[derive(Clone, Debug)]
+pub struct Interface {
+    /// Every class's argument descriptors, none for main.
+    pub signatures: Vec<Vec<u8>>,
+    /// The class of what is thrown.
+    pub exception: u8,
+}
+
+impl Interface {
+    pub fn any(rng: &mut Rng) -> Interface {
+        let count = if rng.chance(1, 12) {
+            8
+        } else {
+            rng.between(1, 4)
+        };
+        Interface::of(rng, count)
+    }
+
+    /// With so many classes.
+    pub fn of(rng: &mut Rng, count: usize) -> Interface {
+        let mut signatures = vec![vec![]];
+        for _ in 1..count {
+            let n = arguments(rng);
+            signatures.push((0..n).map(|_| descriptor(rng, count)).collect());
+        }
+        Interface {
+            signatures,
+            exception: rng.below(count) as u8,
+        }
+    }
+
+    /// The most arguments that a class has.
+    pub fn widest(&self) -> usize {
+        self.signatures.iter().map(Vec::len).max().unwrap_or(0)
+    }
+
+    /// A stack limit: mostly small, at times with room to start any class.
+    pub fn stack_limit(&self, rng: &mut Rng) -> usize {
+        match self.widest() {
+            widest if widest > FEW_ARGUMENTS && rng.chance(1, 2) => {
+                (widest + rng.between(1, 3)).min(16)
+            }
+            _ => size(rng),
+        }
+    }
+}
+
+/// How many arguments: mostly few, at times up to as many as a class may have.
+fn arguments(rng: &mut Rng) -> usize {
+    match rng.below(24) {
+        0 => rng.between(8, 16),
+        1..=3 => rng.between(FEW_ARGUMENTS + 1, 7),
+        _ => rng.pick(&[0, 1, 1, 2, 2, 3]),
+    }
+}
+
+fn descriptor(rng: &mut Rng, classes: usize) -> u8 {
+    match rng.chance(1, 4) {
+        true => INT,
+        false => rng.below(classes) as u8,
+    }
+}
+
+/// How many variables or stack places: mostly a few, at times none or all.
+pub fn size(rng: &mut Rng) -> usize {
+    match rng.below(20) {
+        0 => 0,
+        1 => 16,
+        _ => rng.between(1, 6),
+    }
+}
+
+/// The variables of row 1, which at times claim less of an argument than is
+/// known. With a debt that is never paid the method can't end, and then it
+/// needs a stack to throw from.
+pub fn claimed(
+    rng: &mut Rng,
+    arguments: &[u8],
+    variables: usize,
+    stack_limit: usize,
+) -> Vec<Entry> {
+    let mut claimed = random::first_row(arguments, variables).variables;
+    for entry in &mut claimed[..arguments.len()] {
+        match (rng.below(60), *entry) {
+            (0..=3, _) => *entry = Entry::Top,
+            (4, Entry::Ref { class, .. }) if stack_limit > 0 => {
+                *entry = Entry::reference(class, 0, -(rng.between(1, 3) as i16));
+            }
+            _ => {}
+        }
+    }
+    claimed
+}

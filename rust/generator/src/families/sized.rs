@@ -1,0 +1,181 @@
+//! Bundles of a wanted size and fate, for the benchmark.
+
+use super::typed;
+use crate::builder::{lay_out, Method, Row};
+use crate::rng::Rng;
+use reference::bundle::{Addr, Instr, Var, DIRECTORY_ENTRY, TRAILER};
+use reference::entries::{kind, Entry, END_BIAS};
+use reference::verify::{verify, Verdict};
+
+const MAX_CODE: usize = 256;
+/// What one instruction of a striped method takes, with its row of V 4, K 3.
+const STRIPE_INSTRUCTION: usize = 4 + 4 * 4 + 1 + 4 * 3;
+
+/// Accepted bundles of several classes and about `bytes`, by trial.
+pub fn typical(bytes: usize, wanted: usize) -> Vec<Vec<u8>> {
+    (0..)
+        .map(|seed| typed::well_typed(&mut Rng::new(seed)))
+        .filter(|b| b.len().abs_diff(bytes) < bytes / 10)
+        .filter(|b| {
+            let verdict = verify(b);
+            verdict.number == 0 && verdict.class >= 3 && refused_late(b).is_some()
+        })
+        .take(wanted)
+        .collect()
+}
+
+/// Accepted bundles of eight classes near the limit of 65,535 bytes: main
+/// methods that know no class but 0, which has no arguments in any bundle.
+pub fn full(wanted: usize) -> Vec<Vec<u8>> {
+    let mains: Vec<Method> = (0..)
+        .map(|seed| typed::draft(&mut Rng::new(seed), None).methods)
+        .filter(|methods| methods.len() == 1)
+        .flatten()
+        .filter(|method| (7_000..8_180).contains(&method.record().len()))
+        .take(8 + wanted)
+        .collect();
+    (0..wanted).map(|i| lay_out(&mains[i..i + 8])).collect()
+}
+
+/// The same bundle refused at its very last address (9): a reference in the
+/// last row still owes a lock there. None if that row has no reference.
+pub fn refused_late(bundle: &[u8]) -> Option<Vec<u8>> {
+    let count = bundle[bundle.len() - TRAILER + 2];
+    let end = bundle.len() - TRAILER - DIRECTORY_ENTRY * usize::from(count);
+    let code = u16::from_be_bytes([
+        bundle[bundle.len() - TRAILER - 2],
+        bundle[bundle.len() - TRAILER - 1],
+    ]);
+    let last = Verdict::new(9, count - 1, code);
+    (end.saturating_sub(140)..end - 4)
+        .rev()
+        .filter(|&at| bundle[at] == kind::REFERENCE)
+        .map(|at| {
+            let mut owing = bundle.to_vec();
+            owing[at + 3] = (END_BIAS - 1) as u8;
+            owing
+        })
+        .find(|owing| verify(owing).because(0) == last)
+}
+
+/// The same bundle with an unknown opcode at class 0, address 1 (7).
+pub fn refused_at_first_instruction(bundle: &[u8]) -> Vec<u8> {
+    let mut out = bundle.to_vec();
+    out[0] = 0;
+    out
+}
+
+/// The same bundle with a wrong last byte (2).
+pub fn refused_early(bundle: &[u8]) -> Vec<u8> {
+    let mut out = bundle.to_vec();
+    *out.last_mut().expect("a trailer") ^= 1;
+    out
+}
+
+/// Code and rows written side by side.
+#[derive(Default)]
+struct Stripe {
+    code: Vec<Instr>,
+    rows: Vec<Row>,
+}
+
+impl Stripe {
+    fn add(&mut self, instr: Instr, variables: [Entry; 2], stack: &[Entry]) {
+        let [a, b] = variables;
+        self.code.push(instr);
+        self.rows
+            .push(Row::new(&[a, b, Entry::Top, Entry::Top], stack));
+    }
+
+    /// An object in variable 0, an integer in variable 1: four instructions.
+    fn begin(&mut self) {
+        let free = Entry::fresh(0);
+        self.add(Instr::New(0, None), [Entry::Top, Entry::Top], &[]);
+        self.add(Instr::Store(Var(0)), [Entry::Top, Entry::Top], &[free]);
+        self.add(Instr::Push0, [free, Entry::Top], &[]);
+        self.add(Instr::Store(Var(1)), [free, Entry::Top], &[Entry::Int]);
+    }
+
+    /// A lock taken, a branch and an alias under it, and the lock given back.
+    fn block(&mut self) {
+        let (free, held) = (Entry::fresh(0), Entry::reference(0, 1, -1));
+        let (at_rest, locked) = ([free, Entry::Int], [held, Entry::Int]);
+        let after_branch = Addr(self.code.len() as u16 + 5);
+        self.add(Instr::Enter(Var(0)), at_rest, &[]);
+        self.add(Instr::Push0, locked, &[]);
+        self.add(Instr::Inc, locked, &[Entry::Int]);
+        self.add(Instr::If(after_branch), locked, &[Entry::Int]);
+        self.add(Instr::Load(Var(0)), locked, &[]);
+        self.add(Instr::Pop, locked, &[free]);
+        self.add(Instr::Exit(Var(0)), locked, &[]);
+        self.add(Instr::Load(Var(1)), at_rest, &[]);
+        self.add(Instr::Store(Var(1)), at_rest, &[Entry::Int]);
+    }
+
+    fn end(mut self, instr: Instr, stack: &[Entry]) -> Method {
+        self.add(instr, [Entry::fresh(0), Entry::Int], stack);
+        Method {
+            arguments: vec![],
+            variables: 4,
+            stack_limit: 3,
+            code: self.code,
+            rows: self.rows,
+        }
+    }
+}
+
+/// An accepted bundle of at most `bytes` whose code is one block again and
+/// again, so that only the size differs from one to the next.
+pub fn striped(bytes: usize) -> Vec<u8> {
+    let total = (bytes - TRAILER - 8 * DIRECTORY_ENTRY) / STRIPE_INSTRUCTION;
+    let classes = total.div_ceil(MAX_CODE);
+    let method = striped_method(total / classes);
+    lay_out(&vec![method; classes])
+}
+
+fn striped_method(length: usize) -> Method {
+    let mut stripe = Stripe::default();
+    stripe.begin();
+    while stripe.code.len() + 10 <= length {
+        stripe.block();
+    }
+    stripe.end(Instr::Return, &[])
+}
+
+/// The class of the threads that an endless main thread starts.
+const STARTED: u8 = 1;
+
+/// A method that never ends: it starts so many threads, and then throws its
+/// object to a handler before the block, again and again.
+fn endless_method(starts: usize) -> Method {
+    let (free, at_rest) = (Entry::fresh(0), [Entry::fresh(0), Entry::Int]);
+    let mut stripe = Stripe::default();
+    stripe.begin();
+    for _ in 0..starts {
+        stripe.add(Instr::New(STARTED, None), at_rest, &[]);
+        stripe.add(Instr::Start(STARTED), at_rest, &[Entry::fresh(STARTED)]);
+    }
+    stripe.add(Instr::Load(Var(0)), at_rest, &[]);
+    let handler = Addr(stripe.code.len() as u16 + 1);
+    stripe.add(Instr::Pop, at_rest, &[free]);
+    stripe.block();
+    stripe.add(Instr::Load(Var(0)), at_rest, &[]);
+    stripe.end(Instr::Athrow(Some(handler)), &[free])
+}
+
+/// So many threads that never end, beside the methods of `others` further
+/// classes.
+pub fn endless(threads: usize, others: usize) -> Vec<u8> {
+    let mut methods = vec![endless_method(threads - 1), endless_method(0)];
+    methods.extend(vec![striped_method(250); others]);
+    lay_out(&methods)
+}
+
+/// A schedule for them: all are started, and then take their steps in turn.
+pub fn turns(threads: usize, steps: usize) -> Vec<u8> {
+    // What main does before it has started all of them.
+    let alone = 4 + 2 * (threads - 1);
+    (0..steps)
+        .map(|step| (step.saturating_sub(alone) % threads) as u8)
+        .collect()
+}

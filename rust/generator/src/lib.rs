@@ -1,0 +1,8 @@
+//! Bundles, states and schedules by seed: the same seed always gives the same.
+
+pub mod builder;
+pub mod families;
+pub mod lively;
+pub mod marks;
+pub mod rng;
+pub mod schedule;

@@ -1,0 +1,87 @@
+//! The generated inputs are varied enough to be worth comparing on.
+
+use generator::families::{self, typed};
+use generator::lively::Lively;
+use generator::marks::MARKS;
+use generator::rng::Rng;
+use generator::schedule::{valid_state, Scheduler};
+use reference::belongs::belongs;
+use reference::bundle::Bundle;
+use reference::machine::fresh;
+use reference::slips::Slip;
+use reference::verify::verify;
+
+#[test]
+fn a_seed_gives_one_bundle() {
+    assert!((0..200).all(|seed| families::bundle(seed) == families::bundle(seed)));
+}
+
+#[test]
+fn every_verdict_and_every_mark_comes_up() {
+    let mut verdicts = [0; 11];
+    let mut marks = MARKS.map(|(name, _)| (name, 0));
+    for seed in 0..5_000 {
+        let (_, b) = families::bundle(seed);
+        let number = usize::from(verify(&b).number);
+        verdicts[number] += 1;
+        if number > 0 {
+            continue;
+        }
+        let bundle = Bundle::open_with_code(&b).expect("it is accepted");
+        for ((_, count), (_, has)) in marks.iter_mut().zip(MARKS) {
+            *count += usize::from(has(&bundle));
+        }
+    }
+    assert!(verdicts.iter().all(|&count| count >= 50), "{verdicts:?}");
+    assert!(marks.iter().all(|&(_, count)| count >= 50), "{marks:?}");
+    let (_, branching) = marks[0];
+    assert!(2 * branching >= verdicts[0], "{verdicts:?} {marks:?}");
+}
+
+#[test]
+fn well_typed_bundles_are_accepted() {
+    let accepted = (0..1_000)
+        .filter(|&seed| verify(&typed::well_typed(&mut Rng::new(seed))).number == 0)
+        .count();
+    assert!(accepted >= 990, "{accepted}");
+}
+
+#[test]
+fn every_temptation_works() {
+    for slip in Slip::VERIFIER {
+        let let_through = (0..1_000)
+            .map(|seed| typed::tempting(&mut Rng::new(seed), slip))
+            .filter(|b| verify(b).number == 9)
+            .filter(|b| slip.verify(b).number == 0)
+            .count();
+        assert!(let_through >= 10, "{slip:?}: {let_through}");
+    }
+}
+
+#[test]
+fn runs_enter_handlers() {
+    let (mut by_athrow, mut by_new) = (0, 0);
+    for seed in 0..1_000 {
+        let mut rng = Rng::new(seed);
+        let b = typed::well_typed(&mut rng);
+        let scheduler = Scheduler::new(seed);
+        let run = Lively::follow(&mut rng, &b, fresh(&b).1, scheduler, 100);
+        by_athrow += usize::from(run.caught_athrow);
+        by_new += usize::from(run.caught_new);
+    }
+    assert!(by_athrow >= 200, "{by_athrow}");
+    assert!(by_new >= 200, "{by_new}");
+}
+
+#[test]
+fn valid_states_belong() {
+    for seed in 0..2_000 {
+        let (_, b) = families::bundle(seed);
+        if let Ok(bundle) = Bundle::open_with_code(&b) {
+            assert!(
+                belongs(&bundle, &valid_state(&mut Rng::new(seed), &bundle)),
+                "seed {seed}"
+            );
+        }
+    }
+}

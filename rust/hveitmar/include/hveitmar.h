@@ -1,0 +1,39 @@
+/* The proved verifier and machine for C callers: link target/staticlib/libexports.a, which
+   `rt staticlib exports` writes. docs/LAW.md says what the numbers mean.
+
+   Both calls take any bytes, always come to an end, write into nothing and keep nothing. */
+#ifndef HVEITMAR_H
+#define HVEITMAR_H
+
+#include <stddef.h>
+#include <stdint.h>
+
+#ifdef __cplusplus
+extern "C" {
+#endif
+
+/* Judges the bundle in these bytes. The functions below take the number apart. */
+uint64_t hveitmar_verdict(const uint8_t *bundle, size_t length);
+
+/* All answers of a schedule from the fresh machine, mixed into one number: each answer is added
+   to 31 times what was there, modulo 2^32, and the first is the fresh machine's own. A step is
+   one byte: the low four bits are the thread, the top bit says that an allocation fails. */
+uint64_t hveitmar_digest(const uint8_t *bundle, size_t length, const uint8_t *schedule, size_t steps);
+
+/* 0: accepted; 1 to 10: refused. */
+static inline unsigned hveitmar_number(uint64_t verdict) { return verdict & 0xFF; }
+
+/* The class of a refusal; of an accepted bundle, how many classes it has. */
+static inline unsigned hveitmar_class(uint64_t verdict) { return verdict >> 8 & 0xFF; }
+
+/* The address of a refusal, from 1; 0 where it names none. */
+static inline unsigned hveitmar_address(uint64_t verdict) { return verdict >> 16 & 0xFFFF; }
+
+/* Why a rule fails, 0 to 3; with every verdict but 9 it is 0. */
+static inline unsigned hveitmar_why(uint64_t verdict) { return (unsigned)(verdict >> 32); }
+
+#ifdef __cplusplus
+}
+#endif
+
+#endif

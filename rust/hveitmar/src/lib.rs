@@ -1,0 +1,26 @@
+//! The proved verifier and machine for Rust callers.
+//!
+//! [`verify`] judges a bundle, [`digest`] runs a schedule on it. Both are
+//! proved to give what docs/LAW.md says, whatever the bytes are; this crate
+//! adds types for their numbers. What a bundle is, byte by byte, is there too.
+//!
+//! ```
+//! # let folder = concat!(env!("CARGO_MANIFEST_DIR"), "/../../cases/");
+//! let bundle = std::fs::read(format!("{folder}b.bundle"))?;
+//! let verdict = hveitmar::verify(&bundle);
+//! assert!(!verdict.is_accepted());
+//! assert_eq!(verdict.to_string(), "refused 9 class 0 address 5 why 3");
+//! # Ok::<(), std::io::Error>(())
+//! ```
+//!
+//! The same calls for C are in `include/hveitmar.h`.
+
+#![warn(missing_docs)]
+
+mod answer;
+mod calls;
+mod verdict;
+
+pub use answer::Answer;
+pub use calls::{digest, verify};
+pub use verdict::{Refusal, Verdict, Why};

@@ -1,0 +1,16 @@
+//! An independent verifier and machine.
+//!
+//! Written from document 01 ("Precise rules and scope of the build"), the
+//! requests of document 02 and the readings that settle them, so that it can
+//! be held against the proved implementation without sharing its mistakes.
+
+pub mod belongs;
+pub mod bundle;
+pub mod entries;
+pub mod instructions;
+pub mod machine;
+pub mod rules;
+pub mod slips;
+pub mod state;
+mod throws;
+pub mod verify;

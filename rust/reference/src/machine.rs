@@ -1,0 +1,330 @@
+//! The machine: a fresh state, and one step of one thread.
+
+use crate::belongs::belongs;
+use crate::bundle::{Addr, Bundle, Class, Instr, Var, INT};
+use crate::slips::{AsWritten, Law, Slip};
+use crate::state::{MAX_COUNT, OBJECTS, PLACES, THREADS, THROWN_BY_NEW};
+use std::marker::PhantomData;
+
+pub use crate::state::{State, Thread, Value};
+
+/// The answers of a step, by their numbers in the document.
+pub mod answer {
+    pub const WENT_ON: u8 = 0;
+    pub const RETURNED: u8 = 1;
+    pub const UNCAUGHT: u8 = 2;
+    pub const HELD: u8 = 3;
+    pub const NO_THREAD_FREE: u8 = 4;
+    pub const NOT_LIVE: u8 = 5;
+    pub const STACK_SHORT: u8 = 11;
+    pub const STACK_FULL: u8 = 12;
+    pub const WRONG_KIND: u8 = 13;
+    pub const EXIT_AT_ZERO: u8 = 14;
+    pub const ENDS_HOLDING: u8 = 15;
+    pub const COUNT_FULL: u8 = 16;
+    pub const BAD_BUNDLE: u8 = 17;
+    pub const BAD_STATE: u8 = 18;
+}
+
+/// A fresh machine: 0 and the state, or 17 and the empty state.
+pub fn fresh(b: &[u8]) -> (u8, State) {
+    let mut state = State::EMPTY;
+    let Ok(bundle) = Bundle::open_with_code(b) else {
+        return (answer::BAD_BUNDLE, state);
+    };
+    state.threads[0].live = true;
+    state.threads[0].address = 1;
+    state.objects = 1;
+    state.classes[usize::from(THROWN_BY_NEW)] = bundle.exception();
+    (answer::WENT_ON, state)
+}
+
+/// One step of one thread. The state is changed with the answers 0, 1, 2 and
+/// with no other.
+pub fn step(b: &[u8], state: &mut State, thread: u8, fails: bool) -> u8 {
+    match Bundle::open_with_code(b) {
+        Ok(bundle) => step_in(&bundle, state, thread, fails),
+        Err(_) => answer::BAD_BUNDLE,
+    }
+}
+
+/// The same step for a bundle already opened, so that long runs open it once.
+pub fn step_in(bundle: &Bundle, state: &mut State, thread: u8, fails: bool) -> u8 {
+    step_by::<AsWritten>(bundle, state, thread, fails)
+}
+
+pub(crate) fn step_by<L: Law>(bundle: &Bundle, state: &mut State, thread: u8, fails: bool) -> u8 {
+    match admit(bundle, state, thread) {
+        Ok(mover) => Turn::<L> {
+            bundle,
+            mover,
+            fails,
+            law: PhantomData,
+        }
+        .take(state),
+        Err(refusal) => refusal,
+    }
+}
+
+/// 18, then 5; gives the thread's number as an index.
+fn admit(bundle: &Bundle, state: &State, thread: u8) -> Result<usize, u8> {
+    if !belongs(bundle, state) {
+        return Err(answer::BAD_STATE);
+    }
+    match state.threads.get(usize::from(thread)) {
+        Some(t) if t.live => Ok(usize::from(thread)),
+        _ => Err(answer::NOT_LIVE),
+    }
+}
+
+/// One step that 17, 18 and 5 have let through.
+struct Turn<'a, L> {
+    bundle: &'a Bundle<'a>,
+    mover: usize,
+    fails: bool,
+    law: PhantomData<L>,
+}
+
+impl<L: Law> Turn<'_, L> {
+    /// Looks for a refusal first and only then writes, so that a refused
+    /// state stays as given.
+    fn take(&self, state: &mut State) -> u8 {
+        let thread = &state.threads[self.mover];
+        let class = self.bundle.class(thread.class);
+        let instr = class.instruction(Addr(thread.address));
+        match self.refusal(state, class, instr) {
+            Err(refusal) => refusal,
+            Ok(()) => self.go(state, class, instr),
+        }
+    }
+
+    /// The faults by number, then 3 or 4.
+    fn refusal(&self, state: &State, class: &Class, instr: Instr) -> Result<(), u8> {
+        match instr {
+            Instr::Inc | Instr::If(_) => {
+                self.wants(state, 1)?;
+                self.wants_kind(matches!(self.thread(state).peek(0), Value::Int(_)))
+            }
+            Instr::Pop | Instr::Store(_) => self.wants(state, 1),
+            Instr::Push0 | Instr::Load(_) => self.wants_room(state, class),
+            Instr::Enter(v) => self.refuses_enter(state, v),
+            Instr::Exit(v) => self.refuses_exit(state, v),
+            Instr::New(_, handler) if self.new_fails(state) => {
+                self.refuses_throw(state, class, handler)
+            }
+            Instr::New(..) => self.wants_room(state, class),
+            Instr::Start(c) => self.refuses_start(state, c),
+            Instr::Athrow(handler) => {
+                self.wants(state, 1)?;
+                let top = self.thread(state).peek(0);
+                self.wants_kind(state.is_of_class(top, self.bundle.exception()))?;
+                self.refuses_throw(state, class, handler)
+            }
+            Instr::Return => self.wants_end(state),
+        }
+    }
+
+    fn thread<'s>(&self, state: &'s State) -> &'s Thread {
+        &state.threads[self.mover]
+    }
+
+    fn wants(&self, state: &State, entries: usize) -> Result<(), u8> {
+        refuse_unless(
+            usize::from(self.thread(state).depth) >= entries,
+            answer::STACK_SHORT,
+        )
+    }
+
+    fn wants_room(&self, state: &State, class: &Class) -> Result<(), u8> {
+        let depth = usize::from(self.thread(state).depth);
+        refuse_unless(depth < class.stack_limit, answer::STACK_FULL)
+    }
+
+    fn wants_kind(&self, right: bool) -> Result<(), u8> {
+        refuse_unless(right, answer::WRONG_KIND)
+    }
+
+    /// A thread that would end may hold nothing.
+    fn wants_end(&self, state: &State) -> Result<(), u8> {
+        let holds = state.counts_of(self.mover).iter().any(|&count| count > 0);
+        refuse_unless(!holds, answer::ENDS_HOLDING)
+    }
+
+    /// A handler needs room for what is thrown, on a stack emptied first;
+    /// without one the thread would end.
+    fn refuses_throw(&self, state: &State, class: &Class, handler: Option<Addr>) -> Result<(), u8> {
+        match handler {
+            Some(_) => refuse_unless(class.stack_limit > 0, answer::STACK_FULL),
+            None => self.wants_end(state),
+        }
+    }
+
+    fn new_fails(&self, state: &State) -> bool {
+        self.fails || usize::from(state.objects) >= OBJECTS
+    }
+
+    /// The object whose count monitorenter or monitorexit moves.
+    fn locked(&self, state: &State, v: Var) -> Result<usize, u8> {
+        match self.thread(state).variables[usize::from(v.0)] {
+            Value::Ref(_) if L::slips(Slip::CountByVariable) => Ok(usize::from(v.0)),
+            Value::Ref(object) => Ok(usize::from(object)),
+            Value::Int(_) => Err(answer::WRONG_KIND),
+        }
+    }
+
+    fn refuses_enter(&self, state: &State, v: Var) -> Result<(), u8> {
+        let object = self.locked(state, v)?;
+        let own = state.count(self.mover, object);
+        let held_elsewhere = (0..THREADS).any(|t| t != self.mover && state.count(t, object) > 0);
+        refuse_unless(own < MAX_COUNT, answer::COUNT_FULL)?;
+        refuse_unless(!held_elsewhere, answer::HELD)?;
+        refuse_unless(!(L::slips(Slip::ReentryWaits) && own > 0), answer::HELD)
+    }
+
+    fn refuses_exit(&self, state: &State, v: Var) -> Result<(), u8> {
+        let object = self.locked(state, v)?;
+        refuse_unless(state.count(self.mover, object) > 0, answer::EXIT_AT_ZERO)
+    }
+
+    fn refuses_start(&self, state: &State, class: u8) -> Result<(), u8> {
+        let descriptors = self.bundle.class(class).arguments;
+        self.wants(state, descriptors.len() + 1)?;
+        let thread = self.thread(state);
+        let arguments_match = descriptors.iter().enumerate().all(|(i, &descriptor)| {
+            let value = thread.peek(i);
+            match descriptor {
+                INT => matches!(value, Value::Int(_)),
+                wanted => state.is_of_class(value, wanted),
+            }
+        });
+        let object = thread.peek(descriptors.len());
+        self.wants_kind(arguments_match && state.is_of_class(object, class))?;
+        refuse_unless(
+            state.threads.iter().any(|t| !t.live),
+            answer::NO_THREAD_FREE,
+        )
+    }
+
+    /// What the step changes; nothing refuses any more.
+    fn go(&self, state: &mut State, class: &Class, instr: Instr) -> u8 {
+        match instr {
+            Instr::Enter(v) => self.move_count(state, v, |count| count + 1),
+            Instr::Exit(v) => self.move_count(state, v, |count| count - 1),
+            Instr::New(_, handler) if self.new_fails(state) => {
+                return self.throw(state, class, handler, Value::Ref(THROWN_BY_NEW));
+            }
+            Instr::New(c, _) => self.make(state, c),
+            Instr::Start(c) => self.start(state, c),
+            Instr::Athrow(handler) => {
+                let top = self.thread(state).peek(0);
+                return self.throw(state, class, handler, top);
+            }
+            Instr::Return => {
+                self.end(state, class);
+                return answer::RETURNED;
+            }
+            Instr::Inc
+            | Instr::Pop
+            | Instr::Push0
+            | Instr::Load(_)
+            | Instr::Store(_)
+            | Instr::If(_) => {
+                self.compute(&mut state.threads[self.mover], instr);
+                return answer::WENT_ON;
+            }
+        }
+        state.threads[self.mover].address += 1;
+        answer::WENT_ON
+    }
+
+    /// The instructions that touch nothing but their own thread.
+    fn compute(&self, thread: &mut Thread, instr: Instr) {
+        let mut next = thread.address + 1;
+        match instr {
+            Instr::Inc => {
+                if let Value::Int(i) = thread.pop() {
+                    thread.push(Value::Int(i.wrapping_add(1)));
+                }
+            }
+            Instr::Pop => {
+                thread.pop();
+            }
+            Instr::Push0 => thread.push(Value::ZERO),
+            Instr::Load(v) => thread.push(thread.variables[usize::from(v.0)]),
+            Instr::Store(v) => thread.variables[usize::from(v.0)] = thread.pop(),
+            Instr::If(target) => {
+                if thread.pop() != Value::ZERO {
+                    next = target.0;
+                }
+            }
+            _ => unreachable!("not an instruction of its own thread alone"),
+        }
+        thread.address = next;
+    }
+
+    fn move_count(&self, state: &mut State, v: Var, change: impl Fn(u16) -> u16) {
+        if let Ok(object) = self.locked(state, v) {
+            let count = &mut state.counts[self.mover * OBJECTS + object];
+            *count = change(*count);
+        }
+    }
+
+    fn make(&self, state: &mut State, class: u8) {
+        state.classes[usize::from(state.objects)] = class;
+        state.threads[self.mover].push(Value::Ref(state.objects));
+        state.objects += 1;
+    }
+
+    /// The lowest free thread begins; its stack places are left alone.
+    fn start(&self, state: &mut State, class: u8) {
+        let Some(free) = state.threads.iter().position(|t| !t.live) else {
+            return;
+        };
+        let mut variables = [Value::ZERO; PLACES];
+        let starter = &mut state.threads[self.mover];
+        for variable in &mut variables[..self.bundle.class(class).arguments.len()] {
+            *variable = starter.pop();
+        }
+        starter.pop();
+        let stack = state.threads[free].stack;
+        state.threads[free] = Thread {
+            live: true,
+            class,
+            address: 1,
+            depth: 0,
+            variables,
+            stack,
+        };
+    }
+
+    /// The handler finds what is thrown alone on its stack.
+    fn throw(&self, state: &mut State, class: &Class, handler: Option<Addr>, thrown: Value) -> u8 {
+        let Some(address) = handler else {
+            self.end(state, class);
+            return answer::UNCAUGHT;
+        };
+        let thread = &mut state.threads[self.mover];
+        thread.empty_stack();
+        thread.push(thrown);
+        thread.address = address.0;
+        answer::WENT_ON
+    }
+
+    /// Only places in use become 0; the others keep what they held.
+    fn end(&self, state: &mut State, class: &Class) {
+        let thread = &mut state.threads[self.mover];
+        thread.empty_stack();
+        thread.variables[..class.variables].fill(Value::ZERO);
+        thread.live = false;
+        thread.class = 0;
+        thread.address = 0;
+    }
+}
+
+fn refuse_unless(holds: bool, refusal: u8) -> Result<(), u8> {
+    if holds {
+        Ok(())
+    } else {
+        Err(refusal)
+    }
+}

@@ -1,0 +1,232 @@
+//! The rules at each address: row 1 (verdict 10) and the instructions (9).
+//!
+//! Rows here are well formed already. A rule first asks for all that gives
+//! why 0: depths, kinds named in row l, what may go. Then it compares entries
+//! in the order that decides which misfit is told: row l+1 before another
+//! row, in each the variables ascending, then the stack from the top.
+
+use crate::bundle::{Addr, Bundle, Class, Instr, Row, Var, INT};
+use crate::entries::{all_fit, all_may_go, ask, Entry, Outcome, Pair, Raw, Why, MAX_WEIGHT};
+use crate::slips::{Law, Slip};
+use crate::throws::Throw;
+
+/// Row 1: depth 0, arguments fit their variables, the others are exactly Top.
+pub fn first_row_holds(class: &Class) -> bool {
+    let row = class.row(Addr(1));
+    let (given, others) = row.variables.split_at(class.arguments.len());
+    let arguments_fit = class
+        .arguments
+        .iter()
+        .zip(given)
+        .all(|(&descriptor, &raw)| argument(descriptor).fits(Entry::read(raw)));
+    row.stack.is_empty()
+        && arguments_fit
+        && others.iter().all(|&raw| Entry::read(raw) == Entry::Top)
+}
+
+fn argument(descriptor: u8) -> Entry {
+    match descriptor {
+        INT => Entry::Int,
+        class => Entry::fresh(class),
+    }
+}
+
+/// The rule of the instruction at `address`.
+pub fn check<L: Law>(bundle: &Bundle, class: &Class, address: Addr) -> Outcome {
+    let row = class.row(address);
+    // Only athrow and return may stand at address k; they look at no next row.
+    let next = || class.row(Addr(address.0 + 1));
+    let at = |handler: Option<Addr>| handler.map(|address| class.row(address));
+    match class.instruction(address) {
+        Instr::Inc => inc(row, next()),
+        Instr::Pop => pop::<L>(row, next()),
+        Instr::Push0 => push0(row, next()),
+        Instr::Load(v) => load::<L>(row, next(), v),
+        Instr::Store(v) => store::<L>(row, next(), v),
+        Instr::If(target) => branch::<L>(row, next(), class.row(target)),
+        Instr::Enter(v) => lock(row, next(), v, Pair::entered),
+        Instr::Exit(v) => lock(row, next(), v, exited::<L>),
+        Instr::New(c, handler) => {
+            let failed = Throw::by_new::<L>(row, at(handler), bundle.exception());
+            new::<L>(row, next(), c, failed)
+        }
+        Instr::Start(c) => start::<L>(row, next(), c, bundle.class(c).arguments),
+        Instr::Athrow(handler) => {
+            let throw = Throw::by_athrow::<L>(row, at(handler), bundle.exception())?;
+            throw.asks::<L>()?;
+            throw.fits::<L>()
+        }
+        Instr::Return => ends::<L>(row),
+    }
+}
+
+/// The stacks of row l and of a row it goes to: `T` entries are taken, `G`
+/// are given, and the rest stays. Depths come out exact.
+struct Stacks<'a, const T: usize, const G: usize> {
+    taken: [Entry; T],
+    given: [Entry; G],
+    rest: &'a [Raw],
+    next_rest: &'a [Raw],
+}
+
+impl<'a, const T: usize, const G: usize> Stacks<'a, T, G> {
+    fn split(row: Row<'a>, next: Row<'a>) -> Result<Stacks<'a, T, G>, Why> {
+        let (taken, rest) = row.stack.split_first_chunk().ok_or(Why::Asked)?;
+        let (given, next_rest) = next.stack.split_first_chunk().ok_or(Why::Asked)?;
+        ask(rest.len() == next_rest.len())?;
+        Ok(Stacks {
+            taken: taken.map(Entry::read),
+            given: given.map(Entry::read),
+            rest,
+            next_rest,
+        })
+    }
+
+    fn rest_fits(&self) -> Outcome {
+        all_fit(self.rest, self.next_rest)
+    }
+}
+
+fn variables_fit(row: Row, next: Row) -> Outcome {
+    all_fit(row.variables, next.variables)
+}
+
+/// The variables in their order, `v` by a comparison of its own.
+fn variables_fit_but(row: Row, next: Row, v: Var, own: Outcome) -> Outcome {
+    let at = usize::from(v.0);
+    all_fit(&row.variables[..at], &next.variables[..at])?;
+    own?;
+    all_fit(&row.variables[at + 1..], &next.variables[at + 1..])
+}
+
+fn entry_at(row: Row, v: Var) -> Entry {
+    Entry::read(row.variables[usize::from(v.0)])
+}
+
+fn inc(row: Row, next: Row) -> Outcome {
+    let stacks = Stacks::<1, 1>::split(row, next)?;
+    ask(stacks.taken == [Entry::Int])?;
+    variables_fit(row, next)?;
+    Entry::Int.compare(stacks.given[0])?;
+    stacks.rest_fits()
+}
+
+fn pop<L: Law>(row: Row, next: Row) -> Outcome {
+    let stacks = Stacks::<1, 0>::split(row, next)?;
+    ask(stacks.taken[0].may_go::<L>())?;
+    variables_fit(row, next)?;
+    stacks.rest_fits()
+}
+
+fn push0(row: Row, next: Row) -> Outcome {
+    pushes(Entry::Int, row, next, Stacks::split(row, next)?)
+}
+
+/// `entry` fits the new top, the rest fits: push0, and new that succeeds.
+fn pushes(entry: Entry, row: Row, next: Row, stacks: Stacks<0, 1>) -> Outcome {
+    variables_fit(row, next)?;
+    entry.compare(stacks.given[0])?;
+    stacks.rest_fits()
+}
+
+fn load<L: Law>(row: Row, next: Row, v: Var) -> Outcome {
+    let stacks = Stacks::<0, 1>::split(row, next)?;
+    let (kept, given) = (entry_at(next, v), stacks.given[0]);
+    match entry_at(row, v) {
+        // Both places are compared at once, at v.
+        Entry::Ref { class, pair } => {
+            variables_fit_but(row, next, v, shares::<L>(class, pair, kept, given))?;
+        }
+        plain => {
+            variables_fit_but(row, next, v, plain.compare(kept))?;
+            plain.compare(given)?;
+        }
+    }
+    stacks.rest_fits()
+}
+
+/// One reference becomes two: its pair is shared out between them.
+fn shares<L: Law>(class: u8, pair: Pair, kept: Entry, given: Entry) -> Outcome {
+    let (kept, given) = (kept.weight_after(class)?, given.weight_after(class)?);
+    let copies = |entry: Pair| L::slips(Slip::LoadCopiesPair) && pair.covers(entry).is_ok();
+    if copies(kept) && copies(given) {
+        return Ok(());
+    }
+    pair.covers(kept.plus(given))
+}
+
+fn store<L: Law>(row: Row, next: Row, v: Var) -> Outcome {
+    let stacks = Stacks::<1, 0>::split(row, next)?;
+    ask(L::slips(Slip::StoreKeepsOld) || entry_at(row, v).may_go::<L>())?;
+    let stored = stacks.taken[0].compare(entry_at(next, v));
+    variables_fit_but(row, next, v, stored)?;
+    stacks.rest_fits()
+}
+
+fn branch<L: Law>(row: Row, next: Row, target: Row) -> Outcome {
+    let target = match L::slips(Slip::IfChecksFallThroughOnly) {
+        true => next,
+        false => target,
+    };
+    let falls = Stacks::<1, 0>::split(row, next)?;
+    let jumps = Stacks::<1, 0>::split(row, target)?;
+    ask(falls.taken == [Entry::Int])?;
+    variables_fit(row, next)?;
+    falls.rest_fits()?;
+    variables_fit(row, target)?;
+    jumps.rest_fits()
+}
+
+/// monitorenter and monitorexit: a reference, whose `moved` pair is compared
+/// with its class or Top, which weighs (0,0) here.
+fn lock(row: Row, next: Row, v: Var, moved: impl Fn(Pair) -> Pair) -> Outcome {
+    let stacks = Stacks::<0, 0>::split(row, next)?;
+    let Entry::Ref { class, pair } = entry_at(row, v) else {
+        return Err(Why::Asked);
+    };
+    let after = entry_at(next, v).weight_after(class);
+    let own = after.and_then(|weight| moved(pair).covers(weight));
+    variables_fit_but(row, next, v, own)?;
+    stacks.rest_fits()
+}
+
+fn exited<L: Law>(pair: Pair) -> Pair {
+    let exited = pair.exited();
+    match L::slips(Slip::ExitIgnoresDip) {
+        true => Pair::new(MAX_WEIGHT, exited.end),
+        false => exited,
+    }
+}
+
+fn start<L: Law>(row: Row, next: Row, class: u8, descriptors: &[u8]) -> Outcome {
+    let split = row.stack.split_at_checked(descriptors.len() + 1);
+    let (taken, rest) = split.ok_or(Why::Asked)?;
+    // The object stands below the arguments, so its class closes the list.
+    let wanted = descriptors.iter().copied().chain([class]);
+    let mut pairs = taken.iter().zip(wanted);
+    ask(rest.len() == next.stack.len())?;
+    ask(pairs.all(|(&raw, descriptor)| matches(Entry::read(raw), descriptor)))?;
+    ask(all_may_go::<L>(taken))?;
+    variables_fit(row, next)?;
+    all_fit(rest, next.stack)
+}
+
+/// Int for the descriptor FF, else a reference of that class.
+fn matches(entry: Entry, descriptor: u8) -> bool {
+    match descriptor {
+        INT => entry == Entry::Int,
+        class => entry.is_of(class),
+    }
+}
+
+fn new<L: Law>(row: Row, next: Row, class: u8, failed: Throw) -> Outcome {
+    let stacks = Stacks::split(row, next)?;
+    failed.asks::<L>()?;
+    pushes(Entry::fresh(class), row, next, stacks)?;
+    failed.fits::<L>()
+}
+
+/// return: every entry, variables and stack, may go.
+fn ends<L: Law>(row: Row) -> Outcome {
+    ask(all_may_go::<L>(row.variables) && all_may_go::<L>(row.stack))
+}

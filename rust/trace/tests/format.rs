@@ -1,0 +1,92 @@
+//! The trace program's input and output.
+
+use generator::builder::{case_a, lay_out};
+use generator::families;
+use generator::rng::Rng;
+use generator::schedule::{any_state, schedule};
+use reference::machine::{fresh, State, Value};
+use trace::{
+    decode_input, decode_output, decode_state, encode_input, encode_output, encode_state, follow,
+    run, Input, BAD_INPUT, MAX_STEPS, STATE_BYTES,
+};
+
+#[test]
+fn case_a_prints_as_told() {
+    let b = lay_out(&[case_a()]);
+    let text = run(&encode_input(&b, None, &[0x00, 0xF1, 0x89]));
+    let lines: Vec<&str> = text.lines().collect();
+    assert_eq!(lines[0], "fresh 0");
+    assert_eq!(lines[1], "step 1 thread 0 answer 0");
+    assert_eq!(lines[2], "step 2 thread 1 answer 5 fails");
+    assert_eq!(lines[3], "step 3 thread 9 answer 5 fails");
+    let places = "i0 ".repeat(15) + "i0";
+    let top = "r1".to_string() + &" i0".repeat(15);
+    let counts = "0 ".repeat(31) + "0";
+    assert_eq!(
+        lines[4],
+        format!(
+            "thread 0 live 1 class 0 address 2 depth 1 vars {places} stack {top} counts {counts}"
+        )
+    );
+    assert_eq!(lines[12], format!("objects 2 classes {counts}"));
+    assert_eq!(lines.len(), 13);
+}
+
+#[test]
+fn states_come_back() {
+    for seed in 0..2_000 {
+        let (_, b) = families::bundle(seed);
+        let state = any_state(&mut Rng::new(seed), &b);
+        let bytes = encode_state(&state);
+        assert_eq!(bytes.len(), STATE_BYTES);
+        assert_eq!(decode_state(&bytes), Some(state));
+    }
+}
+
+#[test]
+fn inputs_and_outputs_come_back() {
+    for seed in 0..500 {
+        let (_, b) = families::bundle(seed);
+        if b.len() > 65_535 {
+            continue;
+        }
+        let start = (seed % 2 == 0).then(|| any_state(&mut Rng::new(seed), &b));
+        let begin = start.clone().unwrap_or_else(|| fresh(&b).1);
+        let turns = schedule(&b, &begin, seed, 40);
+        let bytes = encode_input(&b, start.as_ref(), &turns);
+        let input = Input {
+            bundle: &b,
+            start,
+            schedule: &turns,
+        };
+        assert_eq!(decode_input(&bytes), Some(input.clone()));
+        let output = follow(&input);
+        assert_eq!(decode_output(&encode_output(&output)), Some(output));
+    }
+}
+
+#[test]
+fn bad_inputs() {
+    let b = lay_out(&[case_a()]);
+    let good = encode_input(&b, Some(&State::EMPTY), &[0]);
+    let judge = |input: &[u8]| run(input) == BAD_INPUT;
+    assert!(!judge(&good));
+    assert!(judge(&[]) && judge(&good[..50]) && judge(&good[..b.len() + 2]));
+    assert!(judge(&good[..good.len() - 2]));
+    let changed = |at: usize, byte: u8| {
+        let mut input = good.clone();
+        input[b.len() + 2 + at] = byte;
+        judge(&input)
+    };
+    assert!(changed(0, 2), "mode");
+    assert!(changed(1, 2), "live");
+    assert!(changed(6, 2), "kind");
+    assert!(!changed(6, 1), "a reference");
+    let mut state = State::EMPTY;
+    state.threads[0].variables[0] = Value::Ref(7);
+    let mut bytes = encode_state(&state);
+    bytes[8] = 1;
+    assert_eq!(decode_state(&bytes), None, "a reference above 255");
+    assert!(!judge(&encode_input(&b, None, &[0; MAX_STEPS])));
+    assert!(judge(&encode_input(&b, None, &[0; MAX_STEPS + 1])));
+}
