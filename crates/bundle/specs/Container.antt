@@ -22,7 +22,7 @@ classes b = at b (length b - 6)
 abbrev pub exception : List ℕ → ℕ
 exception b = at b (length b - 5)
 
--- record offset (2), arguments n (1), variables V (1), stack limit K (1), a zero (1), code length k (2), at a place of the directory
+-- record offset (2), arguments n (1), variables V (1), stack limit K (1), fields f (1; document 02, Q-8), code length k (2), at a place of the directory
 unfoldable pub headAt : List ℕ → ℕ → Class
 headAt b d =
     record {
@@ -30,7 +30,7 @@ headAt b d =
       args = at b (d + 2);
       vars = at b (d + 3);
       limit = at b (d + 4);
-      zero = at b (d + 5);
+      fields = at b (d + 5);
       code = be16 b (d + 6);
     }
 
@@ -42,9 +42,9 @@ classAt b c = headAt b (directoryAt b + 8 * c)
 unfoldable pub width : Class → ℕ
 width k = 4 * k .vars + 1 + 4 * k .limit
 
--- n argument descriptors; k instructions of four bytes; k rows
+-- n argument descriptors; f field descriptors; k instructions of four bytes; k rows
 unfoldable pub size : Class → ℕ
-size k = k .args + 4 * k .code + k .code * width k
+size k = k .args + k .fields + 4 * k .code + k .code * width k
 
 -- the record does not pass length - 8
 unfoldable pub recordFits : List ℕ → Class → Bool
@@ -60,7 +60,7 @@ partPlace b k = refuse (recordFits b k) 0 (k .offset)
 
 -- where the instruction at address l stands in a record
 unfoldable pub instructionPlace : Class → ℕ → ℕ
-instructionPlace k l = k .args + 4 * (l - 1)
+instructionPlace k l = k .args + k .fields + 4 * (l - 1)
 
 -- the instruction at place p of a record, as it stands
 unfoldable pub codeFrom : List ℕ → ℕ → Code
@@ -76,3 +76,7 @@ codeAt k r l = refuse (leb 1 l && leb l (k .code)) noCode (codeFrom r (instructi
 
 unfoldable pub instructionAt : Class → List ℕ → ℕ → Instruction
 instructionAt k r l = decoded (codeAt k r l)
+
+-- the descriptor of field i, behind the arguments'
+unfoldable pub fieldAt : Class → List ℕ → ℕ → ℕ
+fieldAt k r i = at r (k .args + i)

@@ -4,15 +4,17 @@ use Prim.Native.Nat.{ℕ, _<_, _≤_}
 use Rattle.ground.specs.Bytes.{at}
 use Rattle.instructions.specs.declared.Instruction.{Instruction}
 use Rattle.bundle.specs.declared.Class.{Class}
-use Rattle.bundle.specs.Container.{classes, exception, classAt, partOf, instructionAt}
+use Rattle.bundle.specs.Container.{classes, exception, classAt, partOf, instructionAt, fieldAt}
 
--- n arguments, V variables, stack limit K, k addresses; argument i's descriptor (255 is Int, otherwise a class); address l's instruction
+-- n arguments, V variables, stack limit K, f fields, k addresses; argument i's and field i's descriptor (255 is Int, otherwise a class); address l's instruction
 pub record Method : Type 0 where
   pub args : ℕ
   pub vars : ℕ
   pub limit : ℕ
+  pub fields : ℕ
   pub code : ℕ
   pub descriptor : ℕ → ℕ
+  pub field : ℕ → ℕ
   pub instruction : ℕ → Instruction
 
 -- the class count, the exception class and each class's method
@@ -34,8 +36,10 @@ methodOf k r =
       args = k .args;
       vars = k .vars;
       limit = k .limit;
+      fields = k .fields;
       code = k .code;
       descriptor = at r;
+      field = fieldAt k r;
       instruction = instructionAt k r;
     }
 

@@ -3,7 +3,7 @@ ghost use mathlib.Core.Path.{_≡_};
 ghost use Prim.Native.Nat.{_+_, _*_, _<_, _≤_};
 ghost use lib.ListN.{length};
 ghost use Rattle.ground.specs.Bytes.{at, Begins};
-ghost use Rattle.bundle.specs.Container.{directoryAt, classes, exception, headAt, classAt, width, size, recordFits, partOf, partPlace, codeFrom, noCode, instructionPlace, codeAt, instructionAt};
+ghost use Rattle.bundle.specs.Container.{directoryAt, classes, exception, headAt, classAt, width, size, recordFits, partOf, partPlace, codeFrom, noCode, instructionPlace, codeAt, instructionAt, fieldAt};
 use instructions::Addr;
 use instructions::Code;
 use instructions::Instruction;
@@ -14,7 +14,7 @@ pub struct Class {
     pub args: u8,
     pub vars: u8,
     pub limit: u8,
-    pub zero: u8,
+    pub fields: u8,
     pub code: u16,
 }
 
@@ -46,7 +46,7 @@ fn head_at(b: &[u8], d: usize) -> Class
         args: ground::byte(b, d + 2),
         vars: ground::byte(b, d + 3),
         limit: ground::byte(b, d + 4),
-        zero: ground::byte(b, d + 5),
+        fields: ground::byte(b, d + 5),
         code: ground::word(b, d + 6),
     }
 }
@@ -68,7 +68,7 @@ pub fn width(k: Class) -> usize
 fn size(k: Class) -> usize
     ensures { λ r. ⌜ (r ≡ size k) × (r < 268435456) ⌝ }
 {
-    k.args as usize + 4 * (k.code as usize) + (k.code as usize) * width(k)
+    k.args as usize + k.fields as usize + 4 * (k.code as usize) + (k.code as usize) * width(k)
 }
 
 pub fn record_fits(b: &[u8], k: Class) -> bool
@@ -111,7 +111,7 @@ fn instruction_place(k: Class, l: Addr) -> usize
     requires { ⌜ 1 ≤ l .0 ⌝ }
     ensures { λ p. ⌜ (p ≡ instructionPlace k (l .0)) × (p < 1048576) ⌝ }
 {
-    k.args as usize + 4 * ((l.0 - 1) as usize)
+    k.args as usize + k.fields as usize + 4 * ((l.0 - 1) as usize)
 }
 
 fn no_code() -> Code
@@ -141,4 +141,11 @@ pub fn instruction_at(k: Class, r: &[u8], l: Addr) -> Instruction
     ensures { λ i. ⌜ i ≡ instructionAt k (now (r .entry)) (l .0) ⌝ }
 {
     instructions::instruction_of(code_at(k, r, l))
+}
+
+// The descriptor of field i.
+pub fn field_at(k: Class, r: &[u8], i: u8) -> u8
+    ensures { λ d. ⌜ d ≡ fieldAt k (now (r .entry)) i ⌝ }
+{
+    ground::byte(r, k.args as usize + i as usize)
 }

@@ -2,15 +2,15 @@
 use mathlib.Core.Path.{_≡_, refl, ap}
 use mathlib.Core.Bool.{Bool, true, false, cond, _||_, not}
 use mathlib.Core.List.{List, [], _∷_}
-use Prim.Native.Nat.{ℕ, _≤_, _<_}
+use Prim.Native.Nat.{ℕ, _≤_, _<_, _/_, _%_}
 use native.Mathlib.Omega.{arith}
 use lib.Dec.{eqb}
 use borrow.Author.Tests.{ltb-true, leb-true, eqb-true, eqb-false, ne-eqb}
 use Rattle.ground.proofs.Bools.{and-fst, and-snd, never}
 use Rattle.instructions.specs.declared.Code.{Code}
 use Rattle.instructions.specs.declared.Instruction.{Instruction}
-use Rattle.instructions.specs.declared.Instruction.the-variants.{Inc, Pop, Push0, Load, Store, If, Enter, Exit, New, Start, Throw, Return, Nothing}
-use Rattle.instructions.specs.Table.{Field, none, variable, class, target, handler, unlisted, Line, table, noLine, find, lineOf, decoded, fieldOk, tableOk, lastOk, instructionOk}
+use Rattle.instructions.specs.declared.Instruction.the-variants.{Inc, Pop, Push0, Load, Store, If, Enter, Exit, New, Start, Throw, Return, Get, Put, Nothing}
+use Rattle.instructions.specs.Table.{Field, none, variable, class, field, target, handler, unlisted, Line, table, noLine, find, lineOf, decoded, fieldOk, tableOk, lastOk, instructionOk}
 
 -- an opcode is none of a list's, as the last arm of a match on all of them has it
 unfoldable pub NoneOf : Type 0 → List Line → ℕ → Type 0
@@ -74,20 +74,22 @@ found P u (more {x} {xs} p ps) n = go (eqb n (x .opcode)) (found P u ps n)
     go false q = q
 
 -- ---- in a bundle of so many classes, a method of so many variables and addresses
-module _ (classes vars code : ℕ) where
+module _ (classes : ℕ) (fields : ℕ → ℕ) (vars code : ℕ) where
   FieldFits : Field → ℕ → Type 0
   FieldFits none x = x ≡ 0
   FieldFits variable x = x < vars
   FieldFits class x = x < classes
+  FieldFits field x = (x / 4 < classes) × (x % 4 < fields (x / 4))
   FieldFits target x = (1 ≤ x) × (x ≤ code)
   FieldFits handler x = x ≤ code
   FieldFits unlisted x = ⊥
 
-  field-fits : (f : Field) (x : ℕ) → fieldOk classes vars code f x ≡ true → FieldFits f x
+  field-fits : (f : Field) (x : ℕ) → fieldOk classes fields vars code f x ≡ true → FieldFits f x
   unfolding FieldFits
   field-fits none x e = eqb-true x 0 e
   field-fits variable x e = ltb-true x vars e
   field-fits class x e = ltb-true x classes e
+  field-fits field x e = (ltb-true (x / 4) classes (search and-fst), ltb-true (x % 4) (fields (x / 4)) (search and-snd))
   field-fits target x e = (leb-true 1 x (search and-fst), leb-true x code (search and-snd))
   field-fits handler x e = leb-true x code e
   field-fits unlisted x e = never e refl
@@ -100,12 +102,14 @@ module _ (classes vars code : ℕ) where
   InstructionFits l (Load v) = (v .0 < vars) × (l < code)
   InstructionFits l (Store v) = (v .0 < vars) × (l < code)
   InstructionFits l (If a) = ((1 ≤ a .0) × (a .0 ≤ code)) × (l < code)
-  InstructionFits l (Enter v) = (v .0 < vars) × (l < code)
+  InstructionFits l (Enter v h) = (v .0 < vars) × (h .0 ≤ code) × (l < code)
   InstructionFits l (Exit v) = (v .0 < vars) × (l < code)
   InstructionFits l (New c h) = (c < classes) × (h .0 ≤ code) × (l < code)
   InstructionFits l (Start c) = (c < classes) × (l < code)
   InstructionFits l (Throw h) = h .0 ≤ code
   InstructionFits l Return = Unit {0}
+  InstructionFits l (Get c f h) = (c < classes) × (f < fields c) × (h .0 ≤ code) × (l < code)
+  InstructionFits l (Put c f h) = (c < classes) × (f < fields c) × (h .0 ≤ code) × (l < code)
   InstructionFits l Nothing = ⊥
 
   -- whatever a line admits keeps to that
@@ -123,12 +127,14 @@ module _ (classes vars code : ℕ) where
       ⨾ (λ x a p q n. (p, n refl))
       ⨾ (λ x a p q n. (p, n refl))
       ⨾ (λ x a p q n. (q, n refl))
-      ⨾ (λ x a p q n. (p, n refl))
+      ⨾ (λ x a p q n. (p, q, n refl))
       ⨾ (λ x a p q n. (p, n refl))
       ⨾ (λ x a p q n. (p, q, n refl))
       ⨾ (λ x a p q n. (p, n refl))
       ⨾ (λ x a p q n. q)
       ⨾ (λ x a p q n. tt)
+      ⨾ (λ x a p q n. (p .0, p .1, q, n refl))
+      ⨾ (λ x a p q n. (p .0, p .1, q, n refl))
       ⨾ end
 
   goes-on : (l : ℕ) (x : Code) → l ≤ code → lastOk code l x ≡ true → lineOf (x .opcode) .ends ≡ false → l < code
@@ -139,7 +145,7 @@ module _ (classes vars code : ℕ) where
       not-last true h = never h refl
       not-last false h = refl
 
-  pub admitted : (l : ℕ) (x : Code) → l ≤ code → instructionOk classes vars code l x ≡ true → InstructionFits l (decoded x)
+  pub admitted : (l : ℕ) (x : Code) → l ≤ code → instructionOk classes fields vars code l x ≡ true → InstructionFits l (decoded x)
   unfolding instructionOk tableOk lineOf FieldFits Admits
   admitted l x k e =
       let y = lineOf (x .opcode) in

@@ -1,13 +1,13 @@
 -- Document 01, the instruction table: an instruction of four bytes (opcode, operand, address).
 use mathlib.Core.Bool.{Bool, true, false, cond, _&&_, _||_, not}
 use mathlib.Core.List.{List, [], _∷_}
-use Prim.Native.Nat.{ℕ}
+use Prim.Native.Nat.{ℕ, _/_, _%_}
 use lib.Dec.{leb, ltb, eqb}
 use Rattle.instructions.specs.declared.Addr.{Addr}
 use Rattle.instructions.specs.declared.Var.{Var}
 use Rattle.instructions.specs.declared.Code.{Code}
 use Rattle.instructions.specs.declared.Instruction.{Instruction}
-use Rattle.instructions.specs.declared.Instruction.the-variants.{Inc, Pop, Push0, Load, Store, If, Enter, Exit, New, Start, Throw, Return, Nothing}
+use Rattle.instructions.specs.declared.Instruction.the-variants.{Inc, Pop, Push0, Load, Store, If, Enter, Exit, New, Start, Throw, Return, Get, Put, Nothing}
 
 abbrev pub addr : ℕ → Addr
 addr a = record { 0 = a }
@@ -20,6 +20,7 @@ pub data Field : Type 0 where
   none : Field
   variable : Field
   class : Field
+  field : Field
   target : Field
   handler : Field
   unlisted : Field
@@ -38,7 +39,7 @@ goesOn opcode instruction operand address = record { opcode = opcode; instructio
 abbrev pub mayEnd : ℕ → (ℕ → ℕ → Instruction) → Field → Field → Line
 mayEnd opcode instruction operand address = record { opcode = opcode; instruction = instruction; operand = operand; address = address; ends = true }
 
--- No., instruction, operand, address field
+-- No., instruction, operand, address field; 13, 14 and the handler of 7 are document 02's, Q-8
 unfoldable pub table : List Line
 table =
     goesOn 1 (λ x a. Inc) none none
@@ -47,12 +48,14 @@ table =
     ∷ goesOn 4 (λ x a. Load (var x)) variable none
     ∷ goesOn 5 (λ x a. Store (var x)) variable none
     ∷ goesOn 6 (λ x a. If (addr a)) none target
-    ∷ goesOn 7 (λ x a. Enter (var x)) variable none
+    ∷ goesOn 7 (λ x a. Enter (var x) (addr a)) variable handler
     ∷ goesOn 8 (λ x a. Exit (var x)) variable none
     ∷ goesOn 9 (λ x a. New x (addr a)) class handler
     ∷ goesOn 10 (λ x a. Start x) class none
     ∷ mayEnd 11 (λ x a. Throw (addr a)) none handler
     ∷ mayEnd 12 (λ x a. Return) none none
+    ∷ goesOn 13 (λ x a. Get (x / 4) (x % 4) (addr a)) field handler
+    ∷ goesOn 14 (λ x a. Put (x / 4) (x % 4) (addr a)) field handler
     ∷ []
 
 abbrev pub noLine : Line
@@ -70,30 +73,32 @@ lineOf opcode = find table opcode
 abbrev pub decoded : Code → Instruction
 decoded x = lineOf (x .opcode) .instruction (x .operand) (x .address)
 
--- what a field may hold, in a bundle of so many classes, a method of so many variables and addresses
-abbrev pub fieldOk : ℕ → ℕ → ℕ → Field → ℕ → Bool
+-- what a field may hold, in a bundle of so many classes, each with so many fields, a method of so many variables and addresses
+abbrev pub fieldOk : ℕ → (ℕ → ℕ) → ℕ → ℕ → Field → ℕ → Bool
 -- 0
-fieldOk classes vars code none x = eqb x 0
+fieldOk classes fields vars code none x = eqb x 0
 -- a variable is below V
-fieldOk classes vars code variable x = ltb x vars
+fieldOk classes fields vars code variable x = ltb x vars
 -- a class is one of the bundle's
-fieldOk classes vars code class x = ltb x classes
+fieldOk classes fields vars code class x = ltb x classes
+-- class × 4 + field
+fieldOk classes fields vars code field x = ltb (x / 4) classes && ltb (x % 4) (fields (x / 4))
 -- target 1..k
-fieldOk classes vars code target x = leb 1 x && leb x code
+fieldOk classes fields vars code target x = leb 1 x && leb x code
 -- handler 0..k, 0 is none
-fieldOk classes vars code handler x = leb x code
-fieldOk classes vars code unlisted x = false
+fieldOk classes fields vars code handler x = leb x code
+fieldOk classes fields vars code unlisted x = false
 
 -- the operand and the address field are as the opcode's line says
-unfoldable pub tableOk : ℕ → ℕ → ℕ → Code → Bool
-tableOk classes vars code x =
+unfoldable pub tableOk : ℕ → (ℕ → ℕ) → ℕ → ℕ → Code → Bool
+tableOk classes fields vars code x =
     let y = lineOf (x .opcode) in
-    fieldOk classes vars code (y .operand) (x .operand) && fieldOk classes vars code (y .address) (x .address)
+    fieldOk classes fields vars code (y .operand) (x .operand) && fieldOk classes fields vars code (y .address) (x .address)
 
 -- address k holds athrow or return
 unfoldable pub lastOk : ℕ → ℕ → Code → Bool
 lastOk code l x = not (eqb l code) || lineOf (x .opcode) .ends
 
 -- the instruction at address l breaks nothing of the table
-unfoldable pub instructionOk : ℕ → ℕ → ℕ → ℕ → Code → Bool
-instructionOk classes vars code l x = tableOk classes vars code x && lastOk code l x
+unfoldable pub instructionOk : ℕ → (ℕ → ℕ) → ℕ → ℕ → ℕ → Code → Bool
+instructionOk classes fields vars code l x = tableOk classes fields vars code x && lastOk code l x

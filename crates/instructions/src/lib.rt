@@ -1,5 +1,6 @@
 // The instruction table of document 01: an instruction from its bytes, and whether it keeps to the table.
 ghost use mathlib.Core.Path.{_≡_};
+ghost use Prim.Native.Nat.{ℕ, _≤_, _/_};
 ghost use Rattle.instructions.specs.Table.{lineOf, decoded, tableOk, lastOk, instructionOk};
 
 // An address of a method, from 1; as a handler, 0 is none.
@@ -22,12 +23,14 @@ pub enum Instruction {
     Load(Var),
     Store(Var),
     If(Addr),
-    Enter(Var),
+    Enter(Var, Addr),
     Exit(Var),
     New(u8, Addr),
     Start(u8),
     Throw(Addr),
     Return,
+    Get(u8, u8, Addr),
+    Put(u8, u8, Addr),
     // Of an opcode that is not in the table.
     Nothing,
 }
@@ -44,19 +47,21 @@ pub fn instruction_of(x: Code) -> Instruction
         4 => Instruction::Load(Var(x.operand)),
         5 => Instruction::Store(Var(x.operand)),
         6 => Instruction::If(Addr(x.address)),
-        7 => Instruction::Enter(Var(x.operand)),
+        7 => Instruction::Enter(Var(x.operand), Addr(x.address)),
         8 => Instruction::Exit(Var(x.operand)),
         9 => Instruction::New(x.operand, Addr(x.address)),
         10 => Instruction::Start(x.operand),
         11 => Instruction::Throw(Addr(x.address)),
         12 => Instruction::Return,
+        13 => Instruction::Get(x.operand / 4, x.operand % 4, Addr(x.address)),
+        14 => Instruction::Put(x.operand / 4, x.operand % 4, Addr(x.address)),
         _ => Instruction::Nothing,
     }
 }
 
-// An arm is a line of the table. It is held against the four bytes themselves, so that no instruction is made only to be looked at.
-fn table_ok(classes: u8, vars: u8, code: u16, x: Code) -> bool
-    ensures { λ r. ⌜ r ≡ tableOk classes vars code x ⌝ }
+// An arm is a line of the table; `named` is the field count of the class that a field's operand names. It is held against the four bytes themselves, so that no instruction is made only to be looked at.
+fn table_ok(classes: u8, named: u8, vars: u8, code: u16, x: Code) -> bool
+    ensures { λ r. ⌜ ((fields : ℕ → ℕ) → (13 ≤ x .opcode → named ≡ fields (x .operand / 4)) → r ≡ tableOk classes fields vars code x) ⌝ }
 {
     let operand = x.operand;
     let address = x.address;
@@ -68,12 +73,14 @@ fn table_ok(classes: u8, vars: u8, code: u16, x: Code) -> bool
         4 => (operand < vars) & (address == 0),
         5 => (operand < vars) & (address == 0),
         6 => (operand == 0) & ((1 <= address) & (address <= code)),
-        7 => (operand < vars) & (address == 0),
+        7 => (operand < vars) & (address <= code),
         8 => (operand < vars) & (address == 0),
         9 => (operand < classes) & (address <= code),
         10 => (operand < classes) & (address == 0),
         11 => (operand == 0) & (address <= code),
         12 => (operand == 0) & (address == 0),
+        13 => ((operand / 4 < classes) & (operand % 4 < named)) & (address <= code),
+        14 => ((operand / 4 < classes) & (operand % 4 < named)) & (address <= code),
         _ => false,
     }
 }
@@ -97,11 +104,11 @@ fn last_ok(code: u16, l: Addr, x: Code) -> bool
     ends_code(x.opcode)
 }
 
-// Document 01's verdict 7 at address l of a method.
-pub fn instruction_ok(classes: u8, vars: u8, code: u16, l: Addr, x: Code) -> bool
-    ensures { λ r. ⌜ r ≡ instructionOk classes vars code (l .0) x ⌝ }
+// Document 01's verdict 7 at address l of a method, in a bundle where the class that a field's operand names has so many fields.
+pub fn instruction_ok(classes: u8, named: u8, vars: u8, code: u16, l: Addr, x: Code) -> bool
+    ensures { λ r. ⌜ ((fields : ℕ → ℕ) → (13 ≤ x .opcode → named ≡ fields (x .operand / 4)) → r ≡ instructionOk classes fields vars code (l .0) x) ⌝ }
 {
-    if !table_ok(classes, vars, code, x) {
+    if !table_ok(classes, named, vars, code, x) {
         return false;
     }
     last_ok(code, l, x)

@@ -53,8 +53,16 @@ unfolding lineOf find table
 returns-12 c = rw (c .match .keys12)
 
 returns-13 : tie.Need-returns-13
+unfolding lineOf find table
+returns-13 c = rw (c .before .before .match .keys13)
+
+returns-14 : tie.Need-returns-14
+unfolding lineOf find table
+returns-14 c = rw (c .before .before .match .keys14)
+
+returns-15 : tie.Need-returns-15
 unfolding NoneOf table
-returns-13 c = sym (no-instruction (c .before .args .x) (c .match .rest))
+returns-15 c = sym (no-instruction (c .before .args .x) (c .match .rest))
 
 pub instruction-of-spec : {M : Type 1} → statement M
-instruction-of-spec = tie.close (tie.spec returns returns-2 returns-3 returns-4 returns-5 returns-6 returns-7 returns-8 returns-9 returns-10 returns-11 returns-12 returns-13)
+instruction-of-spec = tie.close (tie.spec returns returns-2 returns-3 returns-4 returns-5 returns-6 returns-7 returns-8 returns-9 returns-10 returns-11 returns-12 returns-13 returns-14 returns-15)

@@ -9,14 +9,14 @@ table-ok-requires c κs = search needs
 
 returns : tie.Need-returns
 unfolding instructionOk
-returns c = rw (failed (c .before .table-ok .ensures) (c .if1 .taken))
+returns c = λ fields h. rw (failed (c .before .table-ok .ensures fields h) (c .if1 .taken))
 
 last-ok-requires : tie.Need-last-ok-requires
 last-ok-requires c κs = search needs
 
 returns-2 : tie.Need-returns-2
 unfolding instructionOk
-returns-2 c = rw (passed (c .before .before .table-ok .ensures) (c .before .if1 .left)) (c .last-ok .ensures)
+returns-2 c = λ fields h. rw (passed (c .before .before .table-ok .ensures fields h) (c .before .if1 .left)) (c .last-ok .ensures)
 
 pub instruction-ok-spec : {M : Type 1} → statement M
 instruction-ok-spec = tie.close (tie.spec table-ok-requires returns last-ok-requires returns-2)
