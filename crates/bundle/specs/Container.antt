@@ -38,6 +38,10 @@ headAt b d =
 unfoldable pub classAt : List ℕ → ℕ → Class
 classAt b c = headAt b (directoryAt b + 8 * c)
 
+-- how many fields class c has
+abbrev pub fieldsOf : List ℕ → ℕ → ℕ
+fieldsOf b c = classAt b c .fields
+
 -- a row has V variable entries, one byte of stack depth, and K stack entries; an entry is four bytes
 unfoldable pub width : Class → ℕ
 width k = 4 * k .vars + 1 + 4 * k .limit

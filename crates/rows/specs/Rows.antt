@@ -9,9 +9,9 @@ use Rattle.bundle.specs.declared.Class.{Class}
 use Rattle.bundle.specs.Container.{width}
 use Rattle.entries.specs.Entries.{Entry, Blank, entryOf}
 
--- n argument descriptors; k instructions of four bytes; k rows: where a row begins that i rows come before
+-- n argument descriptors; f field descriptors; k instructions of four bytes; k rows: where a row begins that i rows come before
 unfoldable pub startBehind : Class → ℕ → ℕ
-startBehind k i = k .args + 4 * k .code + i * width k
+startBehind k i = k .args + k .fields + 4 * k .code + i * width k
 
 -- addresses run from 1
 unfoldable pub rowStart : Class → ℕ → ℕ

@@ -11,7 +11,7 @@ use instructions::Addr;
 fn start_behind(k: Class, i: u16) -> u32
     ensures { λ s. ⌜ s ≡ startBehind k i ⌝ }
 {
-    k.args as u32 + 4 * (k.code as u32) + (i as u32) * (bundle::width(k) as u32)
+    k.args as u32 + k.fields as u32 + 4 * (k.code as u32) + (i as u32) * (bundle::width(k) as u32)
 }
 
 // Where the row of address l begins in a record.

@@ -88,6 +88,6 @@ module _ (b : List ℕ) where
   pub by-class : (f : ℕ → List Place) → ascending (classes b) (λ c. searched b (f c)) ≡ searched b (each (classes b) f)
   by-class f = sym (search-each (holds b) drawn bad (classes b) f)
 
-  pub table-parts : (c : ℕ) → tableOf (classes b) c (classAt b c) (partOf b (classAt b c)) ≡ searched b (tablePlaces b c)
+  pub table-parts : (c : ℕ) → tableOf b c (classAt b c) (partOf b (classAt b c)) ≡ searched b (tablePlaces b c)
   unfolding tableAt firstBroken
   table-parts c = sym (search-each (holds b) drawn bad (classAt b c .code) (λ i. instruction c (i + 1) ∷ []))

@@ -3,7 +3,8 @@ use mathlib.Core.List.{List}
 use mathlib.Core.Path.{_≡_, refl}
 use mathlib.Core.Logic.{_⊎_, inl, inr}
 use mathlib.Core.Bool.{Bool, true, false, _||_, not}
-use Prim.Native.Nat.{ℕ, _≤_, _<_}
+use Prim.Native.Nat.{ℕ, _+_, _≤_, _<_}
+use native.Mathlib.Omega.{arith}
 use lib.ListN.{length}
 use lib.Dec.{eqb}
 use borrow.Author.Tests.{leb-true, ltb-true, eqb-true}
@@ -12,7 +13,7 @@ use Rattle.ground.proofs.Bools.{and-fst, and-snd, or-right}
 use Rattle.ground.proofs.Bounded.{all-elim}
 use Rattle.instructions.proofs.Table.{InstructionFits, admitted}
 use Rattle.bundle.specs.declared.Class.{Class}
-use Rattle.bundle.specs.Container.{classes, exception, classAt, recordFits, partOf, codeAt, instructionAt}
+use Rattle.bundle.specs.Container.{classes, exception, classAt, fieldsOf, recordFits, partOf, codeAt, instructionAt, fieldAt}
 use Rattle.bundle.specs.Program.{Program, methodOf, methodAt, programOf}
 use Rattle.structure.specs.Conditions.{lengthOk, directoryOk, mainOk, codeOk, limitsOk, descriptorOk, descriptorsOk, addressOk}
 use Rattle.structure.specs.Places.{whole, directory, limits, extent, descriptors, instruction}
@@ -24,6 +25,7 @@ pub record Limited (c : ℕ) (k : Class) : Type 0 where
   pub args-vars : k .args ≤ k .vars
   pub vars-16 : k .vars ≤ 16
   pub limit-16 : k .limit ≤ 16
+  pub fields-4 : k .fields ≤ 4
   pub main-args : c ≡ 0 → k .args ≡ 0
   pub some-code : 1 ≤ k .code
   pub code-256 : k .code ≤ 256
@@ -35,6 +37,7 @@ limited c k e =
       args-vars = leb-true _ _ (search (and-fst, and-snd));
       vars-16 = leb-true _ _ (search (and-fst, and-snd));
       limit-16 = leb-true _ _ (search (and-fst, and-snd));
+      fields-4 = leb-true _ _ (search (and-fst, and-snd));
       main-args = λ q. let m : (not (eqb c 0) || eqb (k .args) 0) ≡ true = search (and-fst, and-snd) in eqb-true _ _ (or-right (not (eqb c 0)) _ m (rw q));
       some-code = leb-true _ _ (search (and-fst, and-snd));
       code-256 = leb-true _ _ (search (and-fst, and-snd));
@@ -48,12 +51,15 @@ pub record WellFormed (P : Program) : Type 0 where
   pub args-vars : (c : ℕ) → c < P .classes → P .method c .args ≤ P .method c .vars
   pub vars-16 : (c : ℕ) → c < P .classes → P .method c .vars ≤ 16
   pub limit-16 : (c : ℕ) → c < P .classes → P .method c .limit ≤ 16
+  pub fields-4 : (c : ℕ) → c < P .classes → P .method c .fields ≤ 4
   pub some-code : (c : ℕ) → c < P .classes → 1 ≤ P .method c .code
   pub code-256 : (c : ℕ) → c < P .classes → P .method c .code ≤ 256
   pub descriptor : (c i : ℕ) → c < P .classes → i < P .method c .args
       → (P .method c .descriptor i ≡ 255) ⊎ (P .method c .descriptor i < P .classes)
+  pub field : (c f : ℕ) → c < P .classes → f < P .method c .fields
+      → (P .method c .field f ≡ 255) ⊎ (P .method c .field f < P .classes)
   pub table : (c l : ℕ) → c < P .classes → 1 ≤ l → l ≤ P .method c .code
-      → InstructionFits (P .classes) (P .method c .vars) (P .method c .code) l (P .method c .instruction l)
+      → InstructionFits (P .classes) (λ d. P .method d .fields) (P .method c .vars) (P .method c .code) l (P .method c .instruction l)
 
 descriptor-is : (n : ℕ) (r : List ℕ) (i : ℕ) → descriptorOk n r i ≡ true → (at r i ≡ 255) ⊎ (at r i < n)
 unfolding descriptorOk
@@ -87,7 +93,7 @@ module _ (b : List ℕ) (e : structureOf b .number ≡ 0) where
   exception-class = let h = structure-zero b e directory tt in ltb-true (exception b) (classes b) (search (and-fst, and-snd))
 
   pub well-formed : WellFormed (programOf b)
-  unfolding programOf methodAt methodOf instructionAt descriptorsOk addressOk
+  unfolding programOf methodAt methodOf instructionAt fieldAt descriptorsOk addressOk
   well-formed =
       record {
         some-class = some-classes .0;
@@ -97,10 +103,12 @@ module _ (b : List ℕ) (e : structureOf b .number ≡ 0) where
         args-vars = λ c l. class-limits c l .args-vars;
         vars-16 = λ c l. class-limits c l .vars-16;
         limit-16 = λ c l. class-limits c l .limit-16;
+        fields-4 = λ c l. class-limits c l .fields-4;
         some-code = λ c l. class-limits c l .some-code;
         code-256 = λ c l. class-limits c l .code-256;
-        descriptor = λ c i l h. descriptor-is (classes b) _ i (all-elim _ (classAt b c .args) (structure-zero b e (descriptors c) l) i h);
+        descriptor = λ c i l h. descriptor-is (classes b) _ i (all-elim _ (classAt b c .args + classAt b c .fields) (structure-zero b e (descriptors c) l) i (omega arith));
+        field = λ c f l h. descriptor-is (classes b) _ (classAt b c .args + f) (all-elim _ (classAt b c .args + classAt b c .fields) (structure-zero b e (descriptors c) l) (classAt b c .args + f) (omega arith));
         table = λ c l h a z.
             let k = classAt b c in
-            admitted (classes b) (k .vars) (k .code) l (codeAt k (partOf b k) l) z (structure-zero b e (instruction c l) (record { class-known = h; first = a; last = z }));
+            admitted (classes b) (fieldsOf b) (k .vars) (k .code) l (codeAt k (partOf b k) l) z (structure-zero b e (instruction c l) (record { class-known = h; first = a; last = z }));
       }

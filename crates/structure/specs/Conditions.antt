@@ -8,7 +8,7 @@ use Rattle.ground.specs.Bytes.{at, be16}
 use Rattle.ground.specs.Bounded.{allBelow}
 use Rattle.instructions.specs.Table.{instructionOk}
 use Rattle.bundle.specs.declared.Class.{Class}
-use Rattle.bundle.specs.Container.{directoryAt, classes, exception, codeAt}
+use Rattle.bundle.specs.Container.{directoryAt, classes, exception, fieldsOf, codeAt}
 
 -- 1: length below 8 or above 65,535
 unfoldable pub lengthOk : List ℕ → Bool
@@ -37,13 +37,13 @@ mainOk c k = not (eqb c 0) || eqb (k .args) 0
 unfoldable pub codeOk : Class → Bool
 codeOk k = leb 1 (k .code) && leb (k .code) 256
 
--- 4: a directory limit or its zero byte broken (n ≤ V ≤ 16; K ≤ 16)
+-- 4: a directory limit broken (n ≤ V ≤ 16; K ≤ 16; at most four fields: document 02, Q-8)
 unfoldable pub limitsOk : ℕ → Class → Bool
 limitsOk c k =
     leb (k .args) (k .vars)
     && leb (k .vars) 16
     && leb (k .limit) 16
-    && eqb (k .zero) 0
+    && leb (k .fields) 4
     && mainOk c k
     && codeOk k
 
@@ -53,10 +53,10 @@ limitsOk c k =
 unfoldable pub descriptorOk : ℕ → List ℕ → ℕ → Bool
 descriptorOk n r i = eqb (at r i) 255 || ltb (at r i) n
 
--- 6: a descriptor neither FF nor a class
+-- 6: a descriptor, of an argument or a field, neither FF nor a class
 unfoldable pub descriptorsOk : ℕ → Class → List ℕ → Bool
-descriptorsOk n k r = allBelow (k .args) (descriptorOk n r)
+descriptorsOk n k r = allBelow (k .args + k .fields) (descriptorOk n r)
 
 -- 7: an instruction breaks the table
-unfoldable pub addressOk : ℕ → Class → List ℕ → ℕ → Bool
-addressOk n k r l = instructionOk n (k .vars) (k .code) l (codeAt k r l)
+unfoldable pub addressOk : List ℕ → Class → List ℕ → ℕ → Bool
+addressOk b k r l = instructionOk (classes b) (fieldsOf b) (k .vars) (k .code) l (codeAt k r l)

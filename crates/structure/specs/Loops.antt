@@ -15,9 +15,9 @@ andThen first second = orThen isBad first second
 abbrev pub ascending : ℕ → (ℕ → Verdict) → Verdict
 ascending n f = scan isBad pass n f
 
--- 7 at the address i + 1 of class c, in a bundle of n classes
-unfoldable pub tableAt : ℕ → ℕ → Class → List ℕ → ℕ → Verdict
-tableAt n c k r i = refuse (addressOk n k r (i + 1)) (verdict 7 c (i + 1)) pass
+-- 7 at the address i + 1 of class c, in the bundle b
+unfoldable pub tableAt : List ℕ → ℕ → Class → List ℕ → ℕ → Verdict
+tableAt b c k r i = refuse (addressOk b k r (i + 1)) (verdict 7 c (i + 1)) pass
 
-abbrev pub tableOf : ℕ → ℕ → Class → List ℕ → Verdict
-tableOf n c k r = ascending (k .code) (tableAt n c k r)
+abbrev pub tableOf : List ℕ → ℕ → Class → List ℕ → Verdict
+tableOf b c k r = ascending (k .code) (tableAt b c k r)

@@ -52,7 +52,7 @@ holds b directory = directoryOk b
 holds b (limits c) = limitsOk c (classAt b c)
 holds b (extent c) = recordFits b (classAt b c)
 holds b (descriptors c) = descriptorsOk (classes b) (classAt b c) (partOf b (classAt b c))
-holds b (instruction c l) = addressOk (classes b) (classAt b c) (partOf b (classAt b c)) l
+holds b (instruction c l) = addressOk b (classAt b c) (partOf b (classAt b c)) l
 
 -- the verdict that a broken place draws
 abbrev pub drawn : Place → Verdict

@@ -6,10 +6,11 @@ ghost use Rattle.structure.specs.Structure.{searched, layoutOf, structur
 ghost use Rattle.structure.specs.Loops.{tableAt, tableOf};
 ghost use Rattle.ground.specs.Lists.{each};
 ghost use Rattle.ground.specs.Bytes.{Begins};
-ghost use Rattle.bundle.specs.Container.{classes, classAt};
-ghost use Prim.Native.Nat.{_<_};
+ghost use Rattle.bundle.specs.Container.{classes, classAt, fieldsOf};
+ghost use Prim.Native.Nat.{_<_, _≤_, _/_};
 use bundle::Class;
 use instructions::Addr;
+use instructions::Code;
 
 // The document's number, class and address, and why a 9's rule fails; 0 is no verdict or, at the end, accepted with the class count.
 pub struct Verdict {
@@ -96,7 +97,7 @@ fn limits_ok(c: u8, k: Class) -> bool
     (k.args <= k.vars)
         & (k.vars <= 16)
         & (k.limit <= 16)
-        & (k.zero == 0)
+        & (k.fields <= 4)
         & main_ok(c, k)
         & code_ok(k)
 }
@@ -111,8 +112,8 @@ fn descriptor_ok(n: u8, r: &[u8], i: usize) -> bool
 fn descriptors_ok(n: u8, k: Class, r: &[u8]) -> bool
     ensures { λ o. ⌜ o ≡ descriptorsOk n k (now (r .entry)) ⌝ }
 {
-    let args = k.args as usize;
-    for i in 0..args {
+    let count = k.args as usize + k.fields as usize;
+    for i in 0..count {
         if !descriptor_ok(n, r, i) {
             return false;
         }
@@ -191,17 +192,29 @@ fn layout(b: &[u8]) -> Verdict
     shapes(b)
 }
 
-fn address_ok(n: u8, k: Class, r: &[u8], l: Addr) -> bool
-    ensures { λ o. ⌜ o ≡ addressOk n k (now (r .entry)) (l .0) ⌝ }
+// The field count of the class that an instruction's operand names; only getfield and putfield are asked for it.
+fn named_fields(b: &[u8], x: Code) -> u8
+    ensures { λ f. ⌜ (13 ≤ x .opcode → f ≡ fieldsOf (now (b .entry)) (x .operand / 4)) ⌝ }
 {
-    instructions::instruction_ok(n, k.vars, k.code, l, bundle::code_at(k, r, l))
+    if x.opcode < 13 {
+        return 0;
+    }
+    bundle::class_at(b, x.operand / 4).fields
 }
 
-fn table_at(n: u8, c: u8, k: Class, r: &[u8], i: u16) -> Verdict
-    requires { ⌜ i < 65535 ⌝ }
-    ensures { λ o. ⌜ o ≡ tableAt n c k (now (r .entry)) i ⌝ }
+fn address_ok(b: &[u8], n: u8, k: Class, r: &[u8], l: Addr) -> bool
+    requires { ⌜ n ≡ classes (now b) ⌝ }
+    ensures { λ o. ⌜ o ≡ addressOk (now (b .entry)) k (now (r .entry)) (l .0) ⌝ }
 {
-    if !address_ok(n, k, r, Addr(i + 1)) {
+    let x = bundle::code_at(k, r, l);
+    instructions::instruction_ok(n, named_fields(b, x), k.vars, k.code, l, x)
+}
+
+fn table_at(b: &[u8], n: u8, c: u8, k: Class, r: &[u8], i: u16) -> Verdict
+    requires { ⌜ (i < 65535) × (n ≡ classes (now b)) ⌝ }
+    ensures { λ o. ⌜ o ≡ tableAt (now (b .entry)) c k (now (r .entry)) i ⌝ }
+{
+    if !address_ok(b, n, k, r, Addr(i + 1)) {
         return Verdict {
             number: 7,
             class: c,
@@ -217,12 +230,13 @@ fn table_at(n: u8, c: u8, k: Class, r: &[u8], i: u16) -> Verdict
     }
 }
 
-fn table_of(n: u8, c: u8, k: Class, r: &[u8]) -> Verdict
-    ensures { λ o. ⌜ o ≡ tableOf n c k (now (r .entry)) ⌝ }
+fn table_of(b: &[u8], n: u8, c: u8, k: Class, r: &[u8]) -> Verdict
+    requires { ⌜ n ≡ classes (now b) ⌝ }
+    ensures { λ o. ⌜ o ≡ tableOf (now (b .entry)) c k (now (r .entry)) ⌝ }
 {
     let code = k.code;
     for i in 0..code {
-        let v = table_at(n, c, k, r, i);
+        let v = table_at(b, n, c, k, r, i);
         if v.number != 0 {
             return v;
         }
@@ -239,7 +253,7 @@ fn table_of_class(b: &[u8], c: u8) -> Verdict
     ensures { λ r. ⌜ r ≡ searched (now (b .entry)) (tablePlaces (now (b .entry)) c) ⌝ }
 {
     let k = bundle::class_at(b, c);
-    table_of(bundle::classes(b), c, k, bundle::part_of(b, k))
+    table_of(b, bundle::classes(b), c, k, bundle::part_of(b, k))
 }
 
 fn tables(b: &[u8]) -> Verdict

@@ -10,13 +10,19 @@ use Rattle.structure.proofs.descriptors_ok.Statement.{statement}
 use Rattle.structure.proofs.descriptors_ok.Tie as tie
 
 abbrev Inv-loop : tie.InvT-loop
-Inv-loop n r args i₀ i = (i ≤ args) × (allBelow i (descriptorOk n r) ≡ true)
+Inv-loop n r count i₀ i = (i ≤ count) × (allBelow i (descriptorOk n r) ≡ true)
 
 abbrev μ-loop : tie.MeasureT-loop
-μ-loop n r args i₀ i = args - i
+μ-loop n r count i₀ i = count - i
 
-cast-args : tie.Need-cast-args Inv-loop μ-loop
-cast-args c = search needs
+cast-count : tie.Need-cast-count Inv-loop μ-loop
+cast-count c = search needs
+
+cast-count-2 : tie.Need-cast-count-2 Inv-loop μ-loop
+cast-count-2 c = search needs
+
+add-count : tie.Need-add-count Inv-loop μ-loop
+add-count c = search needs
 
 loop-holds : tie.Need-loop-holds Inv-loop μ-loop
 loop-holds c = search (needs, all-zero)
@@ -47,7 +53,9 @@ descriptors-ok-spec =
     (tie.spec
     Inv-loop
     μ-loop
-    cast-args
+    cast-count
+    cast-count-2
+    add-count
     loop-holds
     descriptor-ok-requires
     returns

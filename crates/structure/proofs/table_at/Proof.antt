@@ -4,14 +4,14 @@ use borrow.Author.Needs.{needs}
 use Rattle.structure.proofs.table_at.Statement.{statement}
 use Rattle.structure.proofs.table_at.Tie as tie
 
-add-t7 : tie.Need-add-t7
-add-t7 c = search needs
+add-t8 : tie.Need-add-t8
+add-t8 c = search needs
 
 address-ok-requires : tie.Need-address-ok-requires
 address-ok-requires c κs = search needs
 
-add-t10 : tie.Need-add-t10
-add-t10 c = search needs
+add-t11 : tie.Need-add-t11
+add-t11 c = search needs
 
 returns : tie.Need-returns
 unfolding tableAt
@@ -22,4 +22,4 @@ unfolding tableAt
 returns-2 c = go _ (c .before .address-ok .ensures) (c .if1 .left) (search needs)
 
 pub table-at-spec : {M : Type 1} → statement M
-table-at-spec = tie.close (tie.spec add-t7 address-ok-requires add-t10 returns returns-2)
+table-at-spec = tie.close (tie.spec add-t8 address-ok-requires add-t11 returns returns-2)

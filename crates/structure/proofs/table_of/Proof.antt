@@ -11,10 +11,10 @@ use Rattle.structure.proofs.table_of.Statement.{statement}
 use Rattle.structure.proofs.table_of.Tie as tie
 
 abbrev Inv-loop : tie.InvT-loop
-Inv-loop n c k r code i₀ i = (i ≤ code) × (scan isBad pass i (tableAt n c k r) ≡ pass)
+Inv-loop b n c k r code i₀ i = (i ≤ code) × (scan isBad pass i (tableAt b c k r) ≡ pass)
 
 abbrev μ-loop : tie.MeasureT-loop
-μ-loop n c k r code i₀ i = code - i
+μ-loop b n c k r code i₀ i = code - i
 
 loop-holds : tie.Need-loop-holds Inv-loop μ-loop
 loop-holds c = search (needs, scan-zero)

@@ -16,7 +16,7 @@ table-of-requires : tie.Need-table-of-requires
 table-of-requires c κs = search needs
 
 returns : tie.Need-returns
-returns c = rw (← table-parts _ _, ← c .before .before .before .class-at .ensures, ← c .before .before .classes .ensures, ← c .before .part-of .ensures .0) (c .table-of .ensures)
+returns c = rw (← table-parts _ _, ← c .before .before .before .class-at .ensures, ← c .before .part-of .ensures .0) (c .table-of .ensures)
 
 pub table-of-class-spec : {M : Type 1} → statement M
 table-of-class-spec =
