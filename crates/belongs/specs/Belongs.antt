@@ -10,7 +10,7 @@ use Rattle.values.specs.Values.{zeroSlot, refers}
 use Rattle.values.specs.declared.Slot.{Slot}
 use Rattle.threads.specs.declared.Thread.{Thread}
 use Rattle.state.specs.declared.State.{State}
-use Rattle.state.specs.State.{threadAt, countOf, isFree}
+use Rattle.state.specs.State.{threadAt, countOf, fieldOf, isFree}
 
 abbrev pub placeRefers : ℕ → List Slot → ℕ → Bool
 placeRefers objects l i = refers objects (getD l i zeroSlot)
@@ -55,6 +55,18 @@ firstOk P objects classes = leb 1 objects && eqb (getD classes 0 0) (P .exceptio
 unfoldable pub objectsOk : Program → ℕ → List ℕ → Bool
 objectsOk P objects classes = firstOk P objects classes && leb objects 32 && allBelow objects (objectOk P classes)
 
+-- field f of object o is no reference to no object
+abbrev pub fieldRefers : ℕ → List Slot → ℕ → ℕ → Bool
+fieldRefers objects fields o f = refers objects (fieldOf fields o f)
+
+-- .. so of each field of its class
+unfoldable pub fieldsRefer : Program → ℕ → List ℕ → List Slot → ℕ → Bool
+fieldsRefer P objects classes fields o = allBelow (P .method (getD classes o 0) .fields) (fieldRefers objects fields o)
+
+-- .. and of each object (document 02, Q-8)
+unfoldable pub fieldsOk : Program → ℕ → List ℕ → List Slot → Bool
+fieldsOk P objects classes fields = allBelow objects (fieldsRefer P objects classes fields)
+
 -- a count is at most 2,047, and above 0 only on an object and at a live thread
 unfoldable pub countOk : ℕ → Bool → ℕ → ℕ → Bool
 countOk objects live o n = eqb n 0 || (leb n 2047 && ltb o objects && live)
@@ -89,3 +101,4 @@ stateOk P s =
     && threadsOk P s
     && countsOk s
     && soleHolders (s .counts) (s .objects)
+    && fieldsOk P (s .objects) (s .classes) (s .fields)

@@ -6,7 +6,6 @@ use lib.Dec.{ltb, eqb}
 use lib.ListN.{replicate}
 use Rattle.instructions.specs.Table.{addr}
 use Rattle.instructions.specs.declared.Instruction.{Instruction}
-use Rattle.bundle.specs.Container.{exception}
 use Rattle.bundle.specs.Program.{Method, Program, programOf}
 use Rattle.structure.specs.Structure.{structureOf}
 use Rattle.values.specs.Values.{zeroSlot}
@@ -18,15 +17,15 @@ use Rattle.machine.specs.declared.Stepped.{Stepped}
 use Rattle.machine.specs.Answers.{unless, unlessDrawn}
 use Rattle.machine.specs.Faults.{faultOf}
 use Rattle.machine.specs.Waits.{waitOf}
-use Rattle.machine.specs.Moves.{moveOf}
+use Rattle.machine.specs.Moves.{firstFields, moveOf}
 
 -- thread 0 live at address 1 of class 0
 abbrev pub mainThread : Thread
 mainThread = record { live = true; class = 0; at = addr 1; depth = 0; vars = replicate 16 zeroSlot; stack = replicate 16 zeroSlot }
 
--- a fresh machine has thread 0 live at address 1 of class 0, object 0 of the exception class, and all else 0
-abbrev pub freshState : ℕ → State
-freshState exception = withThread (withObject emptyState exception) 0 mainThread
+-- a fresh machine has thread 0 live at address 1 of class 0, object 0 of the exception class with its fields as new writes them, and all else 0
+abbrev pub freshState : Program → State
+freshState P = withThread (withObject emptyState (P .exception) (firstFields (P .method (P .exception)))) 0 mainThread
 
 -- the bundle draws none of verdicts 1 to 7 (else 17)
 abbrev pub readable : List ℕ → Bool
@@ -34,7 +33,7 @@ readable b = eqb (structureOf b .number) 0
 
 -- 0 with the fresh machine; 17 with no live thread, no object, and all else 0
 unfoldable pub freshOf : List ℕ → Stepped
-freshOf b = unless (readable b) 17 emptyState (record { answer = 0; state = freshState (exception b) })
+freshOf b = unless (readable b) 17 emptyState (record { answer = 0; state = freshState (programOf b) })
 
 -- an instruction of thread i, which is t and stands in the method m: faults by number, then 3 or 4, and then its move
 abbrev pub execOf : Program → State → ℕ → Thread → Method → Bool → Instruction → Stepped

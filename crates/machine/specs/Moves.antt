@@ -1,18 +1,19 @@
 -- Document 01, the machine: what an instruction of thread i does where it draws no fault and doesn't wait. It answers 0, 1 or 2.
-use mathlib.Core.Bool.{Bool, cond}
+use mathlib.Core.Bool.{Bool, cond, not, _&&_}
+use mathlib.Core.List.{List, [], _∷_}
 use Prim.Native.Nat.{ℕ, _+_, _-_}
-use lib.Dec.{eqb}
+use lib.Dec.{ltb, eqb}
 use Rattle.instructions.specs.declared.Addr.{Addr}
 use Rattle.instructions.specs.declared.Var.{Var}
 use Rattle.instructions.specs.declared.Instruction.{Instruction}
-use Rattle.instructions.specs.declared.Instruction.the-variants.{Inc, Pop, Push0, Load, Store, If, Enter, Exit, New, Start, Throw, Return, Nothing}
+use Rattle.instructions.specs.declared.Instruction.the-variants.{Inc, Pop, Push0, Load, Store, If, Enter, Exit, New, Start, Throw, Return, Get, Put, Nothing}
 use Rattle.bundle.specs.Program.{Method, Program}
 use Rattle.values.specs.declared.Slot.{Slot}
-use Rattle.values.specs.Values.{zeroSlot, refSlot, incSlot, jumps}
+use Rattle.values.specs.Values.{zeroSlot, refSlot, nullSlot, isNull, objectOf, incSlot, jumps}
 use Rattle.threads.specs.declared.Thread.{Thread}
-use Rattle.threads.specs.Threads.{topOf, varOf, withAt, topped, pushed, popped, stored, ended, started}
+use Rattle.threads.specs.Threads.{fromTop, topOf, varOf, withAt, topped, pushed, popped, stored, ended, started}
 use Rattle.state.specs.declared.State.{State}
-use Rattle.state.specs.State.{threadAt, countOf, withThread, withCount, withObject, lowestFree}
+use Rattle.state.specs.State.{threadAt, countOf, withThread, withCount, fieldOf, withField, withObject, lowestFree}
 use Rattle.machine.specs.declared.Stepped.{Stepped}
 use Rattle.machine.specs.Faults.{lockOf, newFails}
 
@@ -47,10 +48,6 @@ ifMove s i t a = cond (jumps (topOf t)) (wentTo s i (popped 1 t) (a .0)) (wentOn
 abbrev pub counted : State → ℕ → Thread → ℕ → ℕ → Stepped
 counted s i t o n = wentOn (withCount s i o n) i (t .at) t
 
--- monitorenter adds one to the count
-abbrev pub enterMove : State → ℕ → Thread → Var → Stepped
-enterMove s i t v = counted s i t (lockOf t v) (countOf (s .counts) i (lockOf t v) + 1)
-
 -- monitorexit takes one away
 abbrev pub exitMove : State → ℕ → Thread → Var → Stepped
 exitMove s i t v = counted s i t (lockOf t v) (countOf (s .counts) i (lockOf t v) - 1)
@@ -67,13 +64,39 @@ caught t x = pushed (popped (t .depth) t) x
 abbrev pub throwMove : State → ℕ → Thread → ℕ → Addr → Slot → Stepped
 throwMove s i t vars h x = cond (eqb (h .0) 0) (endMove s i t vars 2) (wentTo s i (caught t x) (h .0))
 
+-- monitorenter adds one to the count; null throws object 0, as a failed new does (document 02, Q-8)
+abbrev pub enterMove : State → ℕ → Thread → ℕ → Var → Addr → Stepped
+enterMove s i t vars v h =
+    cond (isNull (varOf t (v .0))) (throwMove s i t vars h (refSlot 0))
+    (counted s i t (lockOf t v) (countOf (s .counts) i (lockOf t v) + 1))
+
+-- field place j of a new object of the class whose method is m: null where it is a field that refers, and else integer 0
+abbrev pub firstField : Method → ℕ → Slot
+firstField m j = cond (ltb j (m .fields) && not (eqb (m .field j) 255)) nullSlot zeroSlot
+
+-- .. all four
+abbrev pub firstFields : Method → List Slot
+firstFields m = firstField m 0 ∷ firstField m 1 ∷ firstField m 2 ∷ firstField m 3 ∷ []
+
 -- a new that succeeds takes the next object number
-abbrev pub makeMove : State → ℕ → Thread → ℕ → Stepped
-makeMove s i t c = wentOn (withObject s c) i (t .at) (pushed t (refSlot (s .objects)))
+abbrev pub makeMove : Program → State → ℕ → Thread → ℕ → Stepped
+makeMove P s i t c = wentOn (withObject s c (firstFields (P .method c))) i (t .at) (pushed t (refSlot (s .objects)))
 
 -- a failed new throws object 0
-abbrev pub newMove : State → ℕ → Thread → ℕ → ℕ → Addr → Bool → Stepped
-newMove s i t vars c h fails = cond (newFails s fails) (throwMove s i t vars h (refSlot 0)) (makeMove s i t c)
+abbrev pub newMove : Program → State → ℕ → Thread → ℕ → ℕ → Addr → Bool → Stepped
+newMove P s i t vars c h fails = cond (newFails s fails) (throwMove s i t vars h (refSlot 0)) (makeMove P s i t c)
+
+-- getfield takes the owner from the top and pushes what its field f holds; a null owner throws
+abbrev pub getMove : State → ℕ → Thread → ℕ → ℕ → Addr → Stepped
+getMove s i t vars f h =
+    cond (isNull (topOf t)) (throwMove s i t vars h (refSlot 0))
+    (wentOn s i (t .at) (topped t (fieldOf (s .fields) (objectOf (topOf t)) f)))
+
+-- putfield takes the value from the top, then the owner, and puts the value into its field f; a null owner throws
+abbrev pub putMove : State → ℕ → Thread → ℕ → ℕ → Addr → Stepped
+putMove s i t vars f h =
+    cond (isNull (fromTop t 1)) (throwMove s i t vars h (refSlot 0))
+    (wentOn (withField s (objectOf (fromTop t 1)) f (topOf t)) i (t .at) (popped 2 t))
 
 -- start puts the top in variable 0 of the new thread, the next in 1, and so on, and takes the object below
 abbrev pub startedBy : State → ℕ → Thread → ℕ → ℕ → ℕ → Stepped
@@ -91,10 +114,12 @@ moveOf P s i t m fails Push0 = push0Move s i t
 moveOf P s i t m fails (Load v) = loadMove s i t v
 moveOf P s i t m fails (Store v) = storeMove s i t v
 moveOf P s i t m fails (If a) = ifMove s i t a
-moveOf P s i t m fails (Enter v) = enterMove s i t v
+moveOf P s i t m fails (Enter v h) = enterMove s i t (m .vars) v h
 moveOf P s i t m fails (Exit v) = exitMove s i t v
-moveOf P s i t m fails (New c h) = newMove s i t (m .vars) c h fails
+moveOf P s i t m fails (New c h) = newMove P s i t (m .vars) c h fails
 moveOf P s i t m fails (Start c) = startMove s i t (P .method c .args) c
 moveOf P s i t m fails (Throw h) = throwMove s i t (m .vars) h (topOf t)
 moveOf P s i t m fails Return = endMove s i t (m .vars) 1
+moveOf P s i t m fails (Get c f h) = getMove s i t (m .vars) f h
+moveOf P s i t m fails (Put c f h) = putMove s i t (m .vars) f h
 moveOf P s i t m fails Nothing = record { answer = 0; state = s }

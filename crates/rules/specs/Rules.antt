@@ -1,13 +1,13 @@
 -- Document 01, the rules at each address. x is row l, y is row l+1, z the target's or the handler's row; V is `vars`.
 use mathlib.Core.List.{List, [], _∷_}
-use mathlib.Core.Bool.{Bool, true, false, cond, _&&_}
+use mathlib.Core.Bool.{Bool, true, false, cond, _&&_, _||_}
 use Prim.Native.Nat.{ℕ, _+_}
 use lib.Dec.{leb, eqb}
 use Rattle.ground.specs.Bounded.{allBelow}
 use Rattle.instructions.specs.declared.Instruction.{Instruction}
-use Rattle.instructions.specs.declared.Instruction.the-variants.{Inc, Pop, Push0, Load, Store, If, Enter, Exit, New, Start, Throw, Return, Nothing}
+use Rattle.instructions.specs.declared.Instruction.the-variants.{Inc, Pop, Push0, Load, Store, If, Enter, Exit, New, Start, Throw, Return, Get, Put, Nothing}
 use Rattle.bundle.specs.Program.{Program}
-use Rattle.entries.specs.Entries.{Entry, Int, Ref, noEnd, isInt, isReference, isOf, matches}
+use Rattle.entries.specs.Entries.{Entry, Int, Ref, noEnd, isInt, isReference, isOf, matches, isNullable, classOf, mayBeOf, fieldEntry, matchesField}
 use Rattle.entries.specs.Fits.{mayGo, wantEntered, wantExited}
 use Rattle.rows.specs.Rows.{Row}
 use Rattle.rows.specs.Typed.{Typed}
@@ -38,11 +38,7 @@ storeRule v x y = rule (leb 1 (x .depth) && mayGo (x .variable v)) (edge (popped
 unfoldable pub ifRule : Row → Row → Row → Rule
 ifRule x y z = rule (leb 1 (x .depth) && isInt (x .stack 0)) (edge (popped 1 x) (wants y) ∷ edge (popped 1 x) (wants z) ∷ [])
 
--- monitorenter v: a reference (d,e); next is its class or Top, weight (d',e'); d ≥ d'-1 and e ≥ e'+1. Rest fits
-unfoldable pub enterRule : ℕ → Row → Row → Rule
-enterRule v x y = rule (isReference (x .variable v)) (edge x (wantsAt v (wantEntered (y .variable v)) y) ∷ [])
-
--- monitorexit v: likewise, d ≥ d'+1 and e ≥ e'-1
+-- monitorexit v: a reference (d,e); next is its class or Top, weight (d',e'); d ≥ d'+1 and e ≥ e'-1. Rest fits
 unfoldable pub exitRule : ℕ → Row → Row → Rule
 exitRule v x y = rule (isReference (x .variable v)) (edge x (wantsAt v (wantExited (y .variable v)) y) ∷ [])
 
@@ -58,10 +54,46 @@ thrown h e x z = cond (eqb h 0) [] (edge (pushed e (emptied x)) (wants z) ∷ []
 abbrev pub made : ℕ → Entry
 made c = Ref c 0 noEnd
 
--- new c: in row l+1 the class with (0,0) fits the new top; rest fits; every stack entry may go; a failed new throws (0,0) of the exception class
+-- a failed new throws (0,0) of the exception class; every stack entry may go
+unfoldable pub failureGoes : ℕ → ℕ → ℕ → Row → Bool
+failureGoes vars exception h x = stackGoes x && uncaughtGoes vars h (made exception) x
+
+-- new c: in row l+1 the class with (0,0) fits the new top; rest fits; and it may fail
 unfoldable pub newRule : ℕ → ℕ → ℕ → ℕ → Row → Row → Row → Rule
-newRule vars exception c h x y z =
-    rule (stackGoes x && uncaughtGoes vars h (made exception) x) (edge (pushed (made c) x) (wants y) ∷ thrown h (made exception) x z)
+newRule vars exception c h x y z = rule (failureGoes vars exception h x) (edge (pushed (made c) x) (wants y) ∷ thrown h (made exception) x z)
+
+-- what may be null throws when it is, as a failed new does and under the same rule (document 02, Q-8)
+unfoldable pub nullGoes : ℕ → ℕ → ℕ → Entry → Row → Bool
+nullGoes vars exception h e x = cond (isNullable e) (failureGoes vars exception h x) true
+
+unfoldable pub nullThrown : ℕ → ℕ → Entry → Row → Row → List Edge
+nullThrown exception h e x z = cond (isNullable e) (thrown h (made exception) x z) []
+
+-- a lock that may be null, and wasn't, counts as its class with (0,0)
+unfoldable pub unnulled : ℕ → Row → Row
+unnulled v x = cond (isNullable (x .variable v)) (stored v (made (classOf (x .variable v))) x) x
+
+-- monitorenter v: a reference (d,e), null or not; next is its class or Top, weight (d',e'); d ≥ d'-1 and e ≥ e'+1. Rest fits
+unfoldable pub enterRule : ℕ → ℕ → ℕ → ℕ → Row → Row → Row → Rule
+enterRule vars exception v h x y z =
+    rule ((isReference (x .variable v) || isNullable (x .variable v)) && nullGoes vars exception h (x .variable v) x)
+    (edge (unnulled v x) (wantsAt v (wantEntered (y .variable v)) y) ∷ nullThrown exception h (x .variable v) x z)
+
+-- the owner of a field of class c: a reference of c, null or not, that may go
+unfoldable pub ownerGoes : ℕ → Entry → Bool
+ownerGoes c e = mayBeOf c e && mayGo e
+
+-- getfield of a field of class c with descriptor d: the owner goes from the top, and what its field holds, as Int or its class, null or not, fits the next top; rest fits
+unfoldable pub getRule : ℕ → ℕ → ℕ → ℕ → ℕ → Row → Row → Row → Rule
+getRule vars exception c d h x y z =
+    rule (leb 1 (x .depth) && ownerGoes c (x .stack 0) && nullGoes vars exception h (x .stack 0) x)
+    (edge (pushed (fieldEntry d) (popped 1 x)) (wants y) ∷ nullThrown exception h (x .stack 0) x z)
+
+-- putfield: the value, which matches the descriptor and may go, goes from the top, then the owner; rest fits
+unfoldable pub putRule : ℕ → ℕ → ℕ → ℕ → ℕ → Row → Row → Row → Rule
+putRule vars exception c d h x y z =
+    rule (leb 2 (x .depth) && (matchesField d (x .stack 0) && mayGo (x .stack 0)) && ownerGoes c (x .stack 1) && nullGoes vars exception h (x .stack 1) x)
+    (edge (popped 2 x) (wants y) ∷ nullThrown exception h (x .stack 1) x z)
 
 -- athrow: top is a reference of the exception class; the rest of the stack may go; the top is thrown
 unfoldable pub throwRule : ℕ → ℕ → ℕ → Row → Row → Rule
@@ -96,12 +128,14 @@ ruleOf P vars row l Push0 = push0Rule (row l) (row (l + 1))
 ruleOf P vars row l (Load v) = loadRule (v .0) (row l) (row (l + 1))
 ruleOf P vars row l (Store v) = storeRule (v .0) (row l) (row (l + 1))
 ruleOf P vars row l (If a) = ifRule (row l) (row (l + 1)) (row (a .0))
-ruleOf P vars row l (Enter v) = enterRule (v .0) (row l) (row (l + 1))
+ruleOf P vars row l (Enter v h) = enterRule vars (P .exception) (v .0) (h .0) (row l) (row (l + 1)) (row (h .0))
 ruleOf P vars row l (Exit v) = exitRule (v .0) (row l) (row (l + 1))
 ruleOf P vars row l (New c h) = newRule vars (P .exception) c (h .0) (row l) (row (l + 1)) (row (h .0))
 ruleOf P vars row l (Start c) = startRule (P .method c .args) (P .method c .descriptor) c (row l) (row (l + 1))
 ruleOf P vars row l (Throw h) = throwRule vars (P .exception) (h .0) (row l) (row (h .0))
 ruleOf P vars row l Return = returnRule vars (row l)
+ruleOf P vars row l (Get c f h) = getRule vars (P .exception) c (P .method c .field f) (h .0) (row l) (row (l + 1)) (row (h .0))
+ruleOf P vars row l (Put c f h) = putRule vars (P .exception) c (P .method c .field f) (h .0) (row l) (row (l + 1)) (row (h .0))
 ruleOf P vars row l Nothing = rule false []
 
 -- the rule of address l of class c
