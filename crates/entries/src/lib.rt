@@ -114,7 +114,7 @@ fn kind_of(n: u8, w: u32) -> u8
     if is_blank(n, w) { 0 } else { 5 }
 }
 
-fn class_of(n: u8, w: u32) -> u8
+pub fn class_of(n: u8, w: u32) -> u8
     ensures { λ r. ⌜ r ≡ classOf (entryFrom n w) ⌝ }
 {
     if is_reference(n, w) | is_nullable(n, w) {

@@ -1,20 +1,20 @@
 -- What rules ask, with depths as the code compares them; rulings of the throws; and a rule that never holds.
-use mathlib.Core.Path.{_≡_, refl, _∙_}
+use mathlib.Core.Path.{_≡_, refl, sym, _∙_}
 use mathlib.Core.List.{[], _∷_}
 use mathlib.Core.Bool.{Bool, true, false, cond, _&&_}
-use Prim.Native.Nat.{ℕ, _+_, _<_}
+use Prim.Native.Nat.{ℕ, _+_, _-_, _<_}
 use lib.Dec.{eqb, leb}
-use borrow.Author.Tests.{lt-leb}
+use borrow.Author.Tests.{lt-leb, eqb-true}
 use Rattle.ground.specs.Chain.{refuse}
-use Rattle.entries.specs.Entries.{Entry, isInt, isOf}
-use Rattle.entries.specs.Fits.{mayGo, compare, want}
+use Rattle.entries.specs.Entries.{Entry, kindOf, classOf, isInt, isReference, isNullable, isOf, fieldEntry, matchesField}
+use Rattle.entries.specs.Fits.{mayGo, compare, want, wantEntered}
 use Rattle.rows.specs.Rows.{Row}
-use Rattle.matching.specs.Matching.{popped, pushed, emptied, wants, edge, thenShort, edgeShort, varsGo, stackGoes}
+use Rattle.matching.specs.Matching.{popped, pushed, stored, emptied, wants, wantsAt, edge, thenShort, edgeShort, varsGo, stackGoes}
 use Rattle.matching.proofs.Scans.{then-nothing}
 use Rattle.matching.proofs.Edges.{thrown-edge}
-use Rattle.rules.specs.Rule.{allMeet, met, shortAlong, unmet, ruling}
-use Rattle.rules.specs.Rules.{incRule, popRule, storeRule, ifRule, uncaughtGoes, thrown, made, throwRule, newRule, startRule}
-use Rattle.rules.proofs.Judging.{judged, and-true, and-assoc, ruling-any, ruling-more, met-one, met-two, popped-depth, popped-depths, replaced-depth}
+use Rattle.rules.specs.Rule.{rule, allMeet, met, shortAlong, unmet, ruling}
+use Rattle.rules.specs.Rules.{incRule, popRule, storeRule, ifRule, uncaughtGoes, thrown, made, failureGoes, newRule, nullGoes, nullThrown, unnulled, enterRule, ownerGoes, getRule, putRule, throwRule, startRule}
+use Rattle.rules.proofs.Judging.{judged, and-true, and-assoc, ruling-one, ruling-any, ruling-more, met-one, met-two, popped-depth, popped-depths, replaced-depth}
 
 pub inc-met : (x y : Row) → met (incRule x y) ≡ ((leb 1 (x .depth) && isInt (x .stack 0)) && eqb (x .depth) (y .depth))
 unfolding incRule
@@ -70,11 +70,78 @@ throw-ruling vars exception h x z =
     rw (and-assoc (leb 1 (x .depth) && isOf exception (x .stack 0) && stackGoes (popped 1 x)) (uncaughtGoes vars h (x .stack 0) x) (allMeet (thrown h (x .stack 0) x z)), throw-met vars h (x .stack 0) x z, throw-short vars h (x .stack 0) x z)
     at (ruling-any vars (leb 1 (x .depth) && isOf exception (x .stack 0) && stackGoes (popped 1 x) && uncaughtGoes vars h (x .stack 0) x) (thrown h (x .stack 0) x z))
 
-pub new-ruling : (vars exception c h : ℕ) (x y z : Row)
-    → ruling vars (newRule vars exception c h x y z)
-    ≡ judged ((stackGoes x && throwMet vars h (made exception) x z) && eqb (x .depth + 1) (y .depth))
-    (thenShort (edgeShort vars (edge (pushed (made c) x) (wants y))) (throwShort vars h (made exception) x z))
-unfolding newRule
-new-ruling vars exception c h x y z =
-    rw (and-assoc (stackGoes x) (uncaughtGoes vars h (made exception) x) (allMeet (thrown h (made exception) x z)), throw-met vars h (made exception) x z, throw-short vars h (made exception) x z)
-    at (ruling-more vars (stackGoes x && uncaughtGoes vars h (made exception) x) (edge (pushed (made c) x) (wants y)) (thrown h (made exception) x z))
+-- ---- a failed new: its throw, of the exception class with (0,0)
+module _ (vars exception h : ℕ) (x z : Row) where
+  abbrev pub failureMet : Bool
+  failureMet = failureGoes vars exception h x && allMeet (thrown h (made exception) x z)
+
+  abbrev pub failureShort : ℕ
+  failureShort = shortAlong vars (thrown h (made exception) x z)
+
+  pub failure-met : (stackGoes x && throwMet vars h (made exception) x z) ≡ failureMet
+  unfolding failureGoes
+  failure-met =
+      rw (← throw-met vars h (made exception) x z) (sym (and-assoc (stackGoes x) (uncaughtGoes vars h (made exception) x) (allMeet (thrown h (made exception) x z))))
+
+  pub failure-short : throwShort vars h (made exception) x z ≡ failureShort
+  failure-short = sym (throw-short vars h (made exception) x z)
+
+  pub new-ruling : (c : ℕ) (y : Row)
+      → judged (failureMet && eqb (x .depth + 1) (y .depth)) (thenShort (edgeShort vars (edge (pushed (made c) x) (wants y))) failureShort)
+      ≡ ruling vars (newRule vars exception c h x y z)
+  unfolding newRule
+  new-ruling c y = sym (ruling-more vars (failureGoes vars exception h x) (edge (pushed (made c) x) (wants y)) (thrown h (made exception) x z))
+
+-- ---- what may be null throws when it is
+no-null : (e : Entry) → isReference e ≡ true → isNullable e ≡ false
+no-null e p = rw (eqb-true (kindOf e) 3 p)
+
+module _ (vars exception v h : ℕ) (x y z : Row) where
+  -- a reference
+  pub enter-reference : isReference (x .variable v) ≡ true
+      → judged (eqb (x .depth) (y .depth)) (edgeShort vars (edge x (wantsAt v (wantEntered (y .variable v)) y))) ≡ ruling vars (enterRule vars exception v h x y z)
+  unfolding enterRule nullGoes nullThrown unnulled
+  enter-reference p = rw (p, no-null (x .variable v) p) (sym (ruling-one vars true _))
+
+  -- one that may be null, or no reference at all
+  pub enter-other : isReference (x .variable v) ≡ false
+      → judged ((isNullable (x .variable v) && failureMet vars exception h x z) && eqb (x .depth) (y .depth))
+      (thenShort (edgeShort vars (edge (stored v (made (classOf (x .variable v))) x) (wantsAt v (wantEntered (y .variable v)) y))) (failureShort vars exception h x z))
+      ≡ ruling vars (enterRule vars exception v h x y z)
+  unfolding enterRule nullGoes nullThrown unnulled ruling met refuse
+  enter-other p = rw p (go (isNullable (x .variable v)))
+    where
+      go : (t : Bool)
+          → judged ((t && failureMet vars exception h x z) && eqb (x .depth) (y .depth))
+          (thenShort (edgeShort vars (edge (stored v (made (classOf (x .variable v))) x) (wantsAt v (wantEntered (y .variable v)) y))) (failureShort vars exception h x z))
+          ≡ ruling vars
+          (rule (t && cond t (failureGoes vars exception h x) true)
+          (edge (cond t (stored v (made (classOf (x .variable v))) x) x) (wantsAt v (wantEntered (y .variable v)) y) ∷ cond t (thrown h (made exception) x z) []))
+      go true =
+          sym (ruling-more vars (failureGoes vars exception h x) (edge (stored v (made (classOf (x .variable v))) x) (wantsAt v (wantEntered (y .variable v)) y)) (thrown h (made exception) x z))
+      go false = refl
+
+module _ (vars exception c d h : ℕ) (x y z : Row) where
+  abbrev pub nullMet : Entry → Bool
+  nullMet e = nullGoes vars exception h e x && allMeet (nullThrown exception h e x z)
+
+  abbrev pub nullShort : Entry → ℕ
+  nullShort e = shortAlong vars (nullThrown exception h e x z)
+
+  pub get-ruling : judged
+      (((leb 1 (x .depth) && ownerGoes c (x .stack 0)) && nullMet (x .stack 0)) && eqb (x .depth - 1 + 1) (y .depth))
+      (thenShort (edgeShort vars (edge (pushed (fieldEntry d) (popped 1 x)) (wants y))) (nullShort (x .stack 0)))
+      ≡ ruling vars (getRule vars exception c d h x y z)
+  unfolding getRule
+  get-ruling =
+      rw (← and-assoc (leb 1 (x .depth) && ownerGoes c (x .stack 0)) (nullGoes vars exception h (x .stack 0) x) (allMeet (nullThrown exception h (x .stack 0) x z)))
+      (sym (ruling-more vars _ (edge (pushed (fieldEntry d) (popped 1 x)) (wants y)) (nullThrown exception h (x .stack 0) x z)))
+
+  pub put-ruling : judged
+      (((leb 2 (x .depth) && (matchesField d (x .stack 0) && mayGo (x .stack 0)) && ownerGoes c (x .stack 1)) && nullMet (x .stack 1)) && eqb (x .depth - 2) (y .depth))
+      (thenShort (edgeShort vars (edge (popped 2 x) (wants y))) (nullShort (x .stack 1)))
+      ≡ ruling vars (putRule vars exception c d h x y z)
+  unfolding putRule
+  put-ruling =
+      rw (← and-assoc (leb 2 (x .depth) && (matchesField d (x .stack 0) && mayGo (x .stack 0)) && ownerGoes c (x .stack 1)) (nullGoes vars exception h (x .stack 1) x) (allMeet (nullThrown exception h (x .stack 1) x z)))
+      (sym (ruling-more vars _ (edge (popped 2 x) (wants y)) (nullThrown exception h (x .stack 1) x z)))

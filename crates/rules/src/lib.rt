@@ -6,11 +6,12 @@ ghost use lib.Dec.{eqb};
 ghost use Rattle.ground.specs.Bytes.{at};
 ghost use Rattle.ground.specs.Chain.{refuse};
 ghost use Rattle.bundle.specs.Program.{programOf};
+ghost use Rattle.entries.specs.Words.{entryFrom};
 ghost use Rattle.instructions.specs.Table.{decoded};
 ghost use Rattle.rows.specs.Rows.{rowFrom, rowAt};
 ghost use Rattle.matching.specs.Matching.{emptied, wants, edge, thenShort, edgeShort, varsGo};
-ghost use Rattle.rules.specs.Rule.{met, unmet, ruling};
-ghost use Rattle.rules.specs.Rules.{incRule, popRule, push0Rule, loadRule, storeRule, ifRule, enterRule, exitRule, throwRule, newRule, argumentGoes, objectGoes, argumentsGo, startRule, returnRule, ruleOf};
+ghost use Rattle.rules.specs.Rule.{met, unmet, ruling, allMeet, shortAlong};
+ghost use Rattle.rules.specs.Rules.{incRule, popRule, push0Rule, loadRule, storeRule, ifRule, exitRule, thrown, made, failureGoes, newRule, nullGoes, nullThrown, enterRule, ownerGoes, getRule, putRule, throwRule, argumentGoes, objectGoes, argumentsGo, startRule, returnRule, ruleOf};
 use bundle::Class;
 use instructions::Addr;
 use instructions::Code;
@@ -178,28 +179,6 @@ fn if_rule(n: u8, k: Class, r: &[u8], p: u32, q: u32, h: u32) -> Ruling
     }
 }
 
-fn enter_met(n: u8, k: Class, r: &[u8], v: u8, p: u32, q: u32) -> bool
-    ensures { λ o. ⌜ o ≡ met (enterRule v (rowFrom n k (now (r .entry)) p) (rowFrom n k (now (r .entry)) q)) ⌝ }
-{
-    entries::is_reference(n, rows::variable_word(n, k, r, p, v))
-        & (matching::depth_of(k, r, p) == matching::depth_of(k, r, q))
-}
-
-fn enter_rule(n: u8, k: Class, r: &[u8], v: u8, p: u32, q: u32) -> Ruling
-    ensures { λ o. ⌜ o ≡ ruling (k .vars) (enterRule v (rowFrom n k (now (r .entry)) p) (rowFrom n k (now (r .entry)) q)) ⌝ }
-{
-    if !enter_met(n, k, r, v, p, q) {
-        return Ruling {
-            met: false,
-            short: 0,
-        };
-    }
-    Ruling {
-        met: true,
-        short: matching::entered_edge(n, k, r, v, p, q),
-    }
-}
-
 fn exit_met(n: u8, k: Class, r: &[u8], v: u8, p: u32, q: u32) -> bool
     ensures { λ o. ⌜ o ≡ met (exitRule v (rowFrom n k (now (r .entry)) p) (rowFrom n k (now (r .entry)) q)) ⌝ }
 {
@@ -257,18 +236,140 @@ fn throw_rule(n: u8, k: Class, r: &[u8], x: u8, handler: u16, p: u32, h: u32) ->
     )
 }
 
-// A failed new throws the exception class with (0,0), which may go.
+// A failed new: what it asks of row p and of the handler's. It throws the exception class x with (0,0), which may go.
+fn failure_met(n: u8, k: Class, r: &[u8], x: u8, handler: u16, p: u32, h: u32) -> bool
+    ensures { λ o. ⌜ o ≡ (failureGoes (k .vars) x handler (rowFrom n k (now (r .entry)) p) && allMeet (thrown handler (made x) (rowFrom n k (now (r .entry)) p) (rowFrom n k (now (r .entry)) h))) ⌝ }
+{
+    matching::stack_goes(n, k, r, p) & throw_met(n, k, r, handler, true, p, h)
+}
+
+// .. and its comparisons with the handler's row.
+fn failure_short(n: u8, k: Class, r: &[u8], x: u8, handler: u16, p: u32, h: u32) -> u8
+    ensures { λ o. ⌜ o ≡ shortAlong (k .vars) (thrown handler (made x) (rowFrom n k (now (r .entry)) p) (rowFrom n k (now (r .entry)) h)) ⌝ }
+{
+    let t = entries::compare_made(n, x, rows::stack_word(n, k, r, h, 0));
+    thrown_short(n, k, r, handler, t, p, h)
+}
+
 fn new_rule(n: u8, k: Class, r: &[u8], x: u8, c: u8, handler: u16, p: u32, q: u32, h: u32) -> Ruling
     ensures { λ o. ⌜ o ≡ ruling (k .vars) (newRule (k .vars) x c handler (rowFrom n k (now (r .entry)) p) (rowFrom n k (now (r .entry)) q) (rowFrom n k (now (r .entry)) h)) ⌝ }
 {
-    let t = entries::compare_made(n, x, rows::stack_word(n, k, r, h, 0));
     judged(
-        matching::stack_goes(n, k, r, p)
-            & throw_met(n, k, r, handler, true, p, h)
+        failure_met(n, k, r, x, handler, p, h)
             & (matching::depth_of(k, r, p) + 1 == matching::depth_of(k, r, q)),
         then_short(
             matching::made_edge(n, k, r, c, p, q),
-            thrown_short(n, k, r, handler, t, p, h),
+            failure_short(n, k, r, x, handler, p, h),
+        ),
+    )
+}
+
+// A reference that can't be null throws nothing, and then no throw is looked at.
+fn enter_rule(
+    n: u8,
+    k: Class,
+    r: &[u8],
+    x: u8,
+    v: u8,
+    handler: u16,
+    p: u32,
+    q: u32,
+    h: u32,
+) -> Ruling
+    ensures { λ o. ⌜ o ≡ ruling (k .vars) (enterRule (k .vars) x v handler (rowFrom n k (now (r .entry)) p) (rowFrom n k (now (r .entry)) q) (rowFrom n k (now (r .entry)) h)) ⌝ }
+{
+    let w = rows::variable_word(n, k, r, p, v);
+    let level = matching::depth_of(k, r, p) == matching::depth_of(k, r, q);
+    if entries::is_reference(n, w) {
+        return judged(level, matching::entered_edge(n, k, r, v, p, q));
+    }
+    judged(
+        entries::is_nullable(n, w) & failure_met(n, k, r, x, handler, p, h) & level,
+        then_short(
+            matching::made_entered_edge(n, k, r, entries::class_of(n, w), v, p, q),
+            failure_short(n, k, r, x, handler, p, h),
+        ),
+    )
+}
+
+// What null asks, where w, the owner of a field, may be null.
+fn null_met(n: u8, k: Class, r: &[u8], x: u8, handler: u16, w: u32, p: u32, h: u32) -> bool
+    ensures { λ o. ⌜ o ≡ (nullGoes (k .vars) x handler (entryFrom n w) (rowFrom n k (now (r .entry)) p) && allMeet (nullThrown x handler (entryFrom n w) (rowFrom n k (now (r .entry)) p) (rowFrom n k (now (r .entry)) h))) ⌝ }
+{
+    if !entries::is_nullable(n, w) {
+        return true;
+    }
+    failure_met(n, k, r, x, handler, p, h)
+}
+
+fn null_short(n: u8, k: Class, r: &[u8], x: u8, handler: u16, w: u32, p: u32, h: u32) -> u8
+    ensures { λ o. ⌜ o ≡ shortAlong (k .vars) (nullThrown x handler (entryFrom n w) (rowFrom n k (now (r .entry)) p) (rowFrom n k (now (r .entry)) h)) ⌝ }
+{
+    if !entries::is_nullable(n, w) {
+        return 0;
+    }
+    failure_short(n, k, r, x, handler, p, h)
+}
+
+fn owner_goes(n: u8, c: u8, w: u32) -> bool
+    ensures { λ o. ⌜ o ≡ ownerGoes c (entryFrom n w) ⌝ }
+{
+    entries::may_be_of(n, c, w) & entries::may_go(n, w)
+}
+
+// c is the owner's class, d the field's descriptor.
+fn get_rule(
+    n: u8,
+    k: Class,
+    r: &[u8],
+    x: u8,
+    c: u8,
+    d: u8,
+    handler: u16,
+    p: u32,
+    q: u32,
+    h: u32,
+) -> Ruling
+    ensures { λ o. ⌜ o ≡ ruling (k .vars) (getRule (k .vars) x c d handler (rowFrom n k (now (r .entry)) p) (rowFrom n k (now (r .entry)) q) (rowFrom n k (now (r .entry)) h)) ⌝ }
+{
+    let owner = rows::stack_word(n, k, r, p, 0);
+    judged(
+        (1 <= matching::depth_of(k, r, p))
+            & owner_goes(n, c, owner)
+            & null_met(n, k, r, x, handler, owner, p, h)
+            & (matching::depth_left(k, r, 1, p) + 1 == matching::depth_of(k, r, q)),
+        then_short(
+            matching::field_edge(n, k, r, d, p, q),
+            null_short(n, k, r, x, handler, owner, p, h),
+        ),
+    )
+}
+
+fn put_rule(
+    n: u8,
+    k: Class,
+    r: &[u8],
+    x: u8,
+    c: u8,
+    d: u8,
+    handler: u16,
+    p: u32,
+    q: u32,
+    h: u32,
+) -> Ruling
+    ensures { λ o. ⌜ o ≡ ruling (k .vars) (putRule (k .vars) x c d handler (rowFrom n k (now (r .entry)) p) (rowFrom n k (now (r .entry)) q) (rowFrom n k (now (r .entry)) h)) ⌝ }
+{
+    let value = rows::stack_word(n, k, r, p, 0);
+    let owner = rows::stack_word(n, k, r, p, 1);
+    judged(
+        (2 <= matching::depth_of(k, r, p))
+            & (entries::matches_field(n, d, value) & entries::may_go(n, value))
+            & owner_goes(n, c, owner)
+            & null_met(n, k, r, x, handler, owner, p, h)
+            & (matching::depth_left(k, r, 2, p) == matching::depth_of(k, r, q)),
+        then_short(
+            matching::popped_edge(n, k, r, 2, p, q),
+            null_short(n, k, r, x, handler, owner, p, h),
         ),
     )
 }
@@ -340,7 +441,15 @@ fn start_of(b: &[u8], n: u8, k: Class, r: &[u8], c: u8, p: u32, q: u32) -> Rulin
     start_rule(n, k, r, bundle::part_of(b, started), started.args, c, p, q)
 }
 
-// The ruling of the instruction x at address l of the method whose record is r. The bundle is asked only for the class that a start names, and for the exception class.
+// The descriptor of field f of class c.
+fn descriptor_of(b: &[u8], c: u8, f: u8) -> u8
+    ensures { λ d. ⌜ d ≡ programOf (now (b .entry)) .method c .field f ⌝ }
+{
+    let owner = bundle::class_at(b, c);
+    bundle::field_at(owner, bundle::part_of(b, owner), f)
+}
+
+// The ruling of the instruction x at address l of the method whose record is r. The bundle is asked only for the class that a start or a field instruction names, and for the exception class.
 // The opcode is looked at once.
 pub fn rule_of(b: &[u8], n: u8, k: Class, r: &[u8], l: Addr, x: Code) -> Ruling
     ensures { λ o. ⌜ o ≡ ruling (k .vars) (ruleOf (programOf (now (b .entry))) (k .vars) (rowAt n k (now (r .entry))) (l .0) (decoded x)) ⌝ }
@@ -358,12 +467,42 @@ pub fn rule_of(b: &[u8], n: u8, k: Class, r: &[u8], l: Addr, x: Code) -> Ruling
         4 => load_rule(n, k, r, operand, p, q),
         5 => store_rule(n, k, r, operand, p, q),
         6 => if_rule(n, k, r, p, q, h),
-        7 => enter_rule(n, k, r, operand, p, q),
+        7 => enter_rule(n, k, r, bundle::exception(b), operand, address, p, q, h),
         8 => exit_rule(n, k, r, operand, p, q),
         9 => new_rule(n, k, r, bundle::exception(b), operand, address, p, q, h),
         10 => start_of(b, n, k, r, operand, p, q),
         11 => throw_rule(n, k, r, bundle::exception(b), address, p, h),
         12 => return_rule(n, k, r, p),
+        13 => {
+            let d = descriptor_of(b, operand / 4, operand % 4);
+            get_rule(
+                n,
+                k,
+                r,
+                bundle::exception(b),
+                operand / 4,
+                d,
+                address,
+                p,
+                q,
+                h,
+            )
+        }
+        14 => {
+            let d = descriptor_of(b, operand / 4, operand % 4);
+            put_rule(
+                n,
+                k,
+                r,
+                bundle::exception(b),
+                operand / 4,
+                d,
+                address,
+                p,
+                q,
+                h,
+            )
+        }
         _ => Ruling {
             met: false,
             short: 0,
