@@ -97,7 +97,7 @@ abbrev pair : ℕ → ℕ → Entry
 pair d e = Ref 0 d e
 
 -- A, B (the end is too small), C (the dip is); D: (1,-1) loaded as (0,0) and (1,-1) ruleHolds; E: as (1,-1) twice fails; F: store over (1,-1) fails;
--- G: enter from (1,-1) to (2,-2) ruleHolds; H: exit from (0,0) fails; J: inc of 2147483647 gives -2147483648
+-- G: enter from (1,-1) to (2,-2) ruleHolds (no handler, so the third row is not looked at); H: exit from (0,0) fails; J: inc of 2147483647 gives -2147483648
 abbrev pub cases : List Case
 cases =
     record { given = judged (verdictOf caseA); wanted = judged (verdict 0 1 0) }
@@ -106,7 +106,7 @@ cases =
     ∷ record { given = held (ruleHolds 1 (loadRule 0 (row (pair 1 63)) (rowWith (pair 0 64) (pair 1 63)))); wanted = held true }
     ∷ record { given = held (ruleHolds 1 (loadRule 0 (row (pair 1 63)) (rowWith (pair 1 63) (pair 1 63)))); wanted = held false }
     ∷ record { given = held (ruleHolds 1 (storeRule 0 (rowWith (pair 1 63) Int) (row Int))); wanted = held false }
-    ∷ record { given = held (ruleHolds 1 (enterRule 0 (row (pair 1 63)) (row (pair 2 62)))); wanted = held true }
+    ∷ record { given = held (ruleHolds 1 (enterRule 1 0 0 0 (row (pair 1 63)) (row (pair 2 62)) (row Int))); wanted = held true }
     ∷ record { given = held (ruleHolds 1 (exitRule 0 (row (pair 0 64)) (row (pair 0 65)))); wanted = held false }
     ∷ record { given = number (incOf (pos 2147483647)); wanted = number (negsuc 2147483647) }
     ∷ []
