@@ -12,17 +12,17 @@ use Rattle.ground.specs.Bounded.{countBelow}
 use Rattle.ground.proofs.Bools.{and-fst, and-snd, or-right, never}
 use Rattle.ground.proofs.Bounded.{all-elim, all-intro, count-two, count-sole}
 use Rattle.bundle.specs.Program.{Program}
-use Rattle.values.specs.Values.{zeroSlot, isIntValue, isInt, objectOfValue, objectOf, refersValue, refers}
+use Rattle.values.specs.Values.{zeroSlot, isRefValue, isRef, objectOfValue, objectOf, refersValue, refers}
 use Rattle.values.specs.declared.Slot.{Slot}
 use Rattle.values.specs.declared.Value.{Value}
-use Rattle.values.specs.declared.Value.the-variants.{Int, Ref}
+use Rattle.values.specs.declared.Value.the-variants.{Int, Ref, Null}
 use Rattle.threads.specs.declared.Thread.{Thread}
 use Rattle.threads.specs.Threads.{varOf}
 use Rattle.state.specs.declared.State.{State}
-use Rattle.state.specs.State.{threadAt, countOf, classOf}
-use Rattle.belongs.specs.Belongs.{placesRefer, placedOk, liveOk, threadOk, threadsOk, objectOk, firstOk, objectsOk, countOk, threadCountsOk, countsOk, holdsAt, soleHolder, soleHolders, stateOk}
+use Rattle.state.specs.State.{threadAt, countOf, classOf, fieldOf}
+use Rattle.belongs.specs.Belongs.{placesRefer, placedOk, liveOk, threadOk, threadsOk, objectOk, firstOk, objectsOk, fieldsRefer, fieldsOk, countOk, threadCountsOk, countsOk, holdsAt, soleHolder, soleHolders, stateOk}
 
--- a live thread stands in a method of the bundle, and each place in use holds an integer or refers to an object
+-- a live thread stands in a method of the bundle, and each place in use holds an integer or null, or refers to an object
 pub record Placed (P : Program) (objects : ℕ) (t : Thread) : Type 0 where
   pub class-known : t .class < P .classes
   pub address-first : 1 ≤ t .at .0
@@ -43,16 +43,18 @@ pub record Belongs (P : Program) (s : State) : Type 0 where
   pub first-class : classOf s 0 ≡ P .exception
   pub objects-32 : s .objects ≤ 32
   pub object-class : (o : ℕ) → o < s .objects → classOf s o < P .classes
+  pub field-refers : (o f : ℕ) → o < s .objects → f < P .method (classOf s o) .fields → refers (s .objects) (fieldOf (s .fields) o f) ≡ true
   pub counted : (i o : ℕ) → i < 8 → o < 32 → Counted (s .objects) (threadAt s i .live) o (countOf (s .counts) i o)
   pub one-holder : (i j o : ℕ) → i < 8 → j < 8 → o < 32 → 0 < countOf (s .counts) i o → 0 < countOf (s .counts) j o → i ≡ j
 
 -- what `refers` says of a reference
-pub refers-object : (objects : ℕ) (x : Slot) → refers objects x ≡ true → isInt x ≡ false → objectOf x < objects
+pub refers-object : (objects : ℕ) (x : Slot) → refers objects x ≡ true → isRef x ≡ true → objectOf x < objects
 refers-object objects x e f = go (x .value) e f
   where
-    go : (v : Value) → refersValue objects v ≡ true → isIntValue v ≡ false → objectOfValue v < objects
-    go (Int z) e f = never refl f
+    go : (v : Value) → refersValue objects v ≡ true → isRefValue v ≡ true → objectOfValue v < objects
+    go (Int z) e f = never f refl
     go (Ref o) e f = ltb-true o objects e
+    go Null e f = never f refl
 
 -- ---- one thread
 placed-elim : (P : Program) (objects : ℕ) (t : Thread) → liveOk P objects t ≡ true → Placed P objects t
@@ -158,21 +160,22 @@ module _ (P : Program) (s : State) where
   counts-intro h = all-intro _ 8 (λ i l. all-intro _ 32 (λ o k. counted-intro (s .objects) (threadAt s i .live) o _ (h i o l k)))
 
   pub belongs-elim : stateOk P s ≡ true → Belongs P s
-  unfolding stateOk objectsOk firstOk soleHolders
+  unfolding stateOk objectsOk firstOk soleHolders fieldsOk fieldsRefer
   belongs-elim e =
       let counts = counts-elim (search (and-fst, and-snd)) in
       record {
         live-placed = threads-elim (search (and-fst, and-snd));
-        some-object = leb-true _ _ (search (and-fst, and-snd));
-        first-class = eqb-true _ _ (search (and-fst, and-snd));
+        some-object = leb-true _ _ (search (and-fst, and-snd) depth 6);
+        first-class = eqb-true _ _ (search (and-fst, and-snd) depth 6);
         objects-32 = leb-true _ _ (search (and-fst, and-snd));
         object-class = λ o l. ltb-true _ _ (all-elim (objectOk P (s .classes)) (s .objects) (search (and-fst, and-snd)) o l);
+        field-refers = λ o f l k. all-elim _ (P .method (classOf s o) .fields) (all-elim (fieldsRefer P (s .objects) (s .classes) (s .fields)) (s .objects) (search (and-fst, and-snd)) o l) f k;
         counted = counts;
         one-holder = λ i j o a b l d f. sole-elim (s .counts) o i j (all-elim (soleHolder (s .counts)) (s .objects) (search (and-fst, and-snd)) o (counts i o a l .on-object d)) a b d f;
       }
 
   pub belongs-intro : Belongs P s → stateOk P s ≡ true
-  unfolding stateOk objectsOk firstOk soleHolders
+  unfolding stateOk objectsOk firstOk soleHolders fieldsOk fieldsRefer
   belongs-intro h =
       rw (
         le-leb _ _ (h .some-object),
@@ -182,4 +185,5 @@ module _ (P : Program) (s : State) where
         threads-intro (h .live-placed),
         counts-intro (h .counted),
         all-intro _ (s .objects) (λ o l. sole-intro (s .counts) o (λ i j a b. h .one-holder i j o a b (omega (arith, h .objects-32)))),
+        all-intro _ (s .objects) (λ o l. all-intro _ (P .method (classOf s o) .fields) (λ f k. h .field-refers o f l k)),
       )

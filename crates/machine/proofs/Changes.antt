@@ -1,24 +1,52 @@
--- The changes that a step makes to a state keep it one of the bundle: a thread, a count, one object more.
-use mathlib.Core.Path.{_≡_, sym, _∙_}
+-- The changes that a step makes to a state keep it one of the bundle: a thread, a count, a field, one object more.
+use mathlib.Core.Path.{_≡_, refl, sym, _∙_}
 use mathlib.Core.Logic.{_≢_}
-use mathlib.Core.Bool.{true}
-use Prim.Native.Nat.{ℕ, _+_, _*_, _≤_, _<_}
+use mathlib.Core.Bool.{Bool, true, false, cond, not, _&&_}
+use mathlib.Core.List.{List}
+use Prim.Native.Nat.{ℕ, zero, suc, _+_, _*_, _≤_, _<_}
 use native.Mathlib.Omega.{arith}
 use native.Mathlib.Decide.{ℕ-discrete}
-use lib.ListN.{set}
+use lib.ListN.{getD, set}
+use lib.Dec.{ltb, eqb}
 use lib.Seq.{getD-set-other}
-use Rattle.bundle.specs.Program.{Program}
+use Rattle.bundle.specs.Program.{Method, Program}
+use Rattle.values.specs.declared.Slot.{Slot}
+use Rattle.values.specs.Values.{zeroSlot, nullSlot, refers}
 use Rattle.threads.specs.declared.Thread.{Thread}
 use Rattle.threads.specs.Threads.{idle}
 use Rattle.state.specs.declared.State.{State}
-use Rattle.state.specs.State.{threadAt, countOf, withThread, withCount}
+use Rattle.state.specs.State.{threadAt, countOf, withThread, withCount, fieldOf, withField, fieldsWith}
 use Rattle.belongs.proofs.Belongs.{Placed, Counted, Belongs}
-use Rattle.machine.proofs.Writes.{write-or, write-in}
-use Rattle.machine.proofs.Moved.{placed-more}
+use Rattle.machine.specs.Moves.{firstField, firstFields}
+use Rattle.machine.proofs.Writes.{write-or, write-in, fields-in}
+use Rattle.machine.proofs.Moved.{refers-more, placed-more}
 
--- one object more, of class c, where there is room
-abbrev pub grown : State → ℕ → State
-grown s c = record { threads = s .threads; counts = s .counts; objects = s .objects + 1; classes = set (s .classes) (s .objects) c }
+-- one object more, of class c, where there is room, whose fields hold `first`
+abbrev pub grown : State → ℕ → List Slot → State
+grown s c first =
+    record {
+      threads = s .threads;
+      counts = s .counts;
+      objects = s .objects + 1;
+      classes = set (s .classes) (s .objects) c;
+      fields = fieldsWith (s .fields) (s .objects) first;
+    }
+
+-- what field place f of a new object holds
+pub first-at : (m : Method) (f : ℕ) → f < 4 → getD (firstFields m) f zeroSlot ≡ firstField m f
+first-at m zero l = refl
+first-at m (suc zero) l = refl
+first-at m (suc (suc zero)) l = refl
+first-at m (suc (suc (suc zero))) l = refl
+first-at m (suc (suc (suc (suc f)))) l = absurd (omega arith)
+
+-- null and integer 0 are no reference to no object
+pub first-refers : (m : Method) (objects f : ℕ) → f < 4 → refers objects (getD (firstFields m) f zeroSlot) ≡ true
+first-refers m objects f l = rw (first-at m f l) (go (ltb f (m .fields) && not (eqb (m .field f) 255)))
+  where
+    go : (b : Bool) → refers objects (cond b nullSlot zeroSlot) ≡ true
+    go true = refl
+    go false = refl
 
 module _ (P : Program) (s : State) (h : Belongs P s) where
   -- a thread that holds something stays live
@@ -31,6 +59,7 @@ module _ (P : Program) (s : State) (h : Belongs P s) where
         first-class = h .first-class;
         objects-32 = h .objects-32;
         object-class = h .object-class;
+        field-refers = h .field-refers;
         counted = λ j o l k. write-or (λ (t : Thread). Counted (s .objects) (t .live) o (countOf (s .counts) j o)) (s .threads) i j u idle (h .counted j o l k) (λ q. at j o k q (h .counted j o l k));
         one-holder = h .one-holder;
       }
@@ -49,6 +78,7 @@ module _ (P : Program) (s : State) (h : Belongs P s) where
         first-class = h .first-class;
         objects-32 = h .objects-32;
         object-class = h .object-class;
+        field-refers = h .field-refers;
         counted = λ j p e f. write-or (λ (k : ℕ). Counted (s .objects) (threadAt s j .live) p k) (s .counts) (i * 32 + o) (j * 32 + p) n 0 (h .counted j p e f) (λ q. at j p f q);
         one-holder = λ j k p e f g x y. sole j k p e f g x y (ℕ-discrete p o);
       }
@@ -78,18 +108,38 @@ module _ (P : Program) (s : State) (h : Belongs P s) where
       sole j k p e f g x y (no q) =
           h .one-holder j k p e f g (rw (unwritten j p (λ w. omega (arith, small))) at x) (rw (unwritten k p (λ w. omega (arith, small))) at y)
 
-  pub object-belongs : (c : ℕ) → c < P .classes → s .objects < 32 → Belongs P (grown s c)
-  object-belongs c b l =
+  -- what a field comes to hold refers to an object
+  pub field-belongs : (o f : ℕ) (x : Slot) → refers (s .objects) x ≡ true → Belongs P (withField s o f x)
+  field-belongs o f x e =
+      record {
+        live-placed = h .live-placed;
+        some-object = h .some-object;
+        first-class = h .first-class;
+        objects-32 = h .objects-32;
+        object-class = h .object-class;
+        field-refers = λ p g l k. write-or (λ (y : Slot). refers (s .objects) y ≡ true) (s .fields) (o * 4 + f) (p * 4 + g) x zeroSlot (h .field-refers p g l k) (λ q. e);
+        counted = h .counted;
+        one-holder = h .one-holder;
+      }
+
+  -- the new object's fields refer, and no class has more than four
+  pub object-belongs : (c : ℕ) (first : List Slot) → c < P .classes → s .objects < 32 → ((d : ℕ) → d < P .classes → P .method d .fields ≤ 4)
+      → ((f : ℕ) → f < 4 → refers (s .objects + 1) (getD first f zeroSlot) ≡ true) → Belongs P (grown s c first)
+  object-belongs c first b l few new =
       record {
         live-placed = λ i e a. placed-more P (s .objects) (threadAt s i) (h .live-placed i e a);
         some-object = omega arith;
         first-class = getD-set-other (s .classes) (s .objects) 0 c 0 (λ q. omega (arith, h .some-object)) ∙ h .first-class;
         objects-32 = omega arith;
-        object-class = λ o e. write-in (λ (k : ℕ). k < P .classes) (s .classes) (s .objects) o c 0 (omega arith) (λ q. b) (λ q. h .object-class o (omega arith));
+        object-class = known;
+        field-refers = λ o f e k. let small : f < 4 = omega (arith, few _ (known o e)) in fields-in (λ (y : Slot). refers (s .objects + 1) y ≡ true) (s .fields) first (s .objects) o f small refl (λ q. new f small) (λ q. refers-more (s .objects) (fieldOf (s .fields) o f) (h .field-refers o f (omega arith) (rw (getD-set-other (s .classes) (s .objects) o c 0 q) at k)));
         counted = λ i o e f. more i o (h .counted i o e f);
         one-holder = h .one-holder;
       }
     where
+      known : (o : ℕ) → o < s .objects + 1 → getD (set (s .classes) (s .objects) c) o 0 < P .classes
+      known o e = write-in (λ (k : ℕ). k < P .classes) (s .classes) (s .objects) o c 0 (omega arith) (λ q. b) (λ q. h .object-class o (omega arith))
+
       more : (i o : ℕ) → Counted (s .objects) (threadAt s i .live) o (countOf (s .counts) i o)
           → Counted (s .objects + 1) (threadAt s i .live) o (countOf (s .counts) i o)
       more i o d = record { count-2047 = d .count-2047; on-object = λ n. omega (arith, d .on-object n); by-live = d .by-live }

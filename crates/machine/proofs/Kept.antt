@@ -7,12 +7,12 @@ use native.Mathlib.Omega.{arith}
 use lib.Dec.{eqb}
 use Rattle.instructions.specs.declared.Addr.{Addr}
 use Rattle.instructions.specs.declared.Instruction.{Instruction}
-use Rattle.instructions.specs.declared.Instruction.the-variants.{Inc, Pop, Push0, Load, Store, If, Enter, Exit, New, Start, Throw, Return, Nothing}
+use Rattle.instructions.specs.declared.Instruction.the-variants.{Inc, Pop, Push0, Load, Store, If, Enter, Exit, New, Start, Throw, Return, Get, Put, Nothing}
 use Rattle.bundle.specs.Program.{Method, Program, programOf}
 use Rattle.values.specs.declared.Slot.{Slot}
-use Rattle.values.specs.Values.{refSlot, jumps}
+use Rattle.values.specs.Values.{refSlot, isNull, jumps}
 use Rattle.threads.specs.declared.Thread.{Thread}
-use Rattle.threads.specs.Threads.{topOf}
+use Rattle.threads.specs.Threads.{fromTop, topOf, varOf}
 use Rattle.state.specs.declared.State.{State}
 use Rattle.state.specs.State.{threadAt}
 use Rattle.machine.specs.declared.Stepped.{Stepped}
@@ -39,12 +39,14 @@ module _ (P : Program) (s : State) (i : ℕ) (t : Thread) (m : Method) (fails : 
   moves (Load v) = went _
   moves (Store v) = went _
   moves (If a) = either Moves (jumps (topOf t)) _ _ (λ _. went _) (λ _. went _)
-  moves (Enter v) = went _
+  moves (Enter v h) = either Moves (isNull (varOf t (v .0))) _ _ (λ _. throw-moves h (refSlot 0)) (λ _. went _)
   moves (Exit v) = went _
   moves (New c h) = either Moves (newFails s fails) _ _ (λ _. throw-moves h (refSlot 0)) (λ _. went _)
   moves (Start c) = went _
   moves (Throw h) = throw-moves h (topOf t)
   moves Return = record { small = omega arith }
+  moves (Get c f h) = either Moves (isNull (topOf t)) _ _ (λ _. throw-moves h (refSlot 0)) (λ _. went _)
+  moves (Put c f h) = either Moves (isNull (fromTop t 1)) _ _ (λ _. throw-moves h (refSlot 0)) (λ _. went _)
   moves Nothing = went _
 
 -- ---- a step

@@ -1,19 +1,22 @@
 -- What an instruction makes of a thread keeps to its class's method: the depth within K, and each reference in use to an object.
 use mathlib.Core.Path.{_≡_, refl}
-use mathlib.Core.Bool.{true}
+use mathlib.Core.Bool.{true, false, not}
+use mathlib.Core.List.{List}
 use Prim.Native.Nat.{ℕ, _+_, _-_, _≤_, _<_}
 use native.Mathlib.Omega.{arith}
 use lib.ListN.{getD}
-use borrow.Author.Tests.{lt-ltb, ltb-true}
+use borrow.Author.Tests.{lt-ltb, ltb-true, eqb-true}
+use Rattle.ground.proofs.Bools.{and-fst, and-snd, or-right, never}
 use Rattle.ground.proofs.Writes.{fill-out}
 use Rattle.bundle.specs.Program.{Program}
 use Rattle.values.specs.declared.Value.{Value}
-use Rattle.values.specs.declared.Value.the-variants.{Int, Ref}
+use Rattle.values.specs.declared.Value.the-variants.{Int, Ref, Null}
 use Rattle.values.specs.declared.Slot.{Slot}
-use Rattle.values.specs.Values.{zeroSlot, incValue, incSlot, refersValue, refers}
+use Rattle.values.specs.Values.{zeroSlot, isIntValue, isInt, isNullValue, isNull, isRefValue, isRef, objectOf, incValue, incSlot, refersValue, refers}
 use Rattle.threads.specs.declared.Thread.{Thread}
 use Rattle.threads.specs.Threads.{varOf, fromTop, withAt, topped, pushed, popped, stored}
-use Rattle.belongs.proofs.Belongs.{Placed}
+use Rattle.belongs.proofs.Belongs.{Placed, refers-object}
+use Rattle.machine.specs.Faults.{isOwner}
 use Rattle.machine.proofs.Writes.{write-or, write-in}
 
 pub refers-inc : (objects : ℕ) (x : Slot) → refers objects x ≡ true → refers objects (incSlot x) ≡ true
@@ -22,14 +25,33 @@ refers-inc objects x e = go (x .value) e
     go : (v : Value) → refersValue objects v ≡ true → refersValue objects (incValue v) ≡ true
     go (Int z) e = refl
     go (Ref o) e = e
+    go Null e = refl
 
 -- a reference to an object stays one where there is one object more
-refers-more : (objects : ℕ) (x : Slot) → refers objects x ≡ true → refers (objects + 1) x ≡ true
+pub refers-more : (objects : ℕ) (x : Slot) → refers objects x ≡ true → refers (objects + 1) x ≡ true
 refers-more objects x e = go (x .value) e
   where
     go : (v : Value) → refersValue objects v ≡ true → refersValue (objects + 1) v ≡ true
     go (Int z) e = refl
     go (Ref o) e = lt-ltb o (objects + 1) (omega (arith, ltb-true o objects e))
+    go Null e = refl
+
+-- what is neither an integer nor null refers
+pub a-ref : (x : Slot) → not (isInt x) ≡ true → isNull x ≡ false → isRef x ≡ true
+a-ref x e f = go (x .value) e f
+  where
+    go : (v : Value) → not (isIntValue v) ≡ true → isNullValue v ≡ false → isRefValue v ≡ true
+    go (Int z) e f = never e refl
+    go (Ref o) e f = refl
+    go Null e f = never refl f
+
+-- an owner that isn't null is an object of the class
+pub owner : (objects : ℕ) (classes : List ℕ) (c : ℕ) (x : Slot) → refers objects x ≡ true → isOwner classes c x ≡ true → isNull x ≡ false
+    → (objectOf x < objects) × (getD classes (objectOf x) 0 ≡ c)
+unfolding isOwner
+owner objects classes c x r e n =
+    let o = or-right (isNull x) _ e n in
+    (refers-object objects x r (and-fst (isRef x) _ o), eqb-true _ c (and-snd (isRef x) _ o))
 
 pub placed-more : (P : Program) (objects : ℕ) (t : Thread) → Placed P objects t → Placed P (objects + 1) t
 placed-more P objects t p =

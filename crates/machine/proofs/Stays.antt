@@ -1,40 +1,40 @@
 -- THEOREM: from a state of the bundle a step gives a state of the bundle, whatever it answers.
 use mathlib.Core.Path.{_≡_, refl, _∙_}
-use mathlib.Core.Bool.{Bool, true, false, not}
+use mathlib.Core.Bool.{Bool, true, false}
 use mathlib.Core.List.{List}
 use Prim.Native.Nat.{ℕ, _+_, _-_, _≤_, _<_}
 use native.Mathlib.Omega.{arith}
 use native.Mathlib.Decide.{decLt}
 use lib.ListN.{getD, replicate, length-replicate, getD-replicate}
 use lib.Dec.{ltb, leb, eqb}
-use borrow.Author.Tests.{ltb-true, leb-true, leb-false, eqb-true, eqb-false, lt-ltb, not-true}
+use borrow.Author.Tests.{ltb-true, leb-true, leb-false, eqb-true, eqb-false, lt-ltb}
 use Rattle.ground.specs.Bounded.{setBelow}
-use Rattle.ground.proofs.Bools.{and-fst, and-snd, or-right, or-false-snd, never}
+use Rattle.ground.proofs.Bools.{or-right, or-false-snd, never}
 use Rattle.ground.proofs.Bounded.{all-elim}
 use Rattle.ground.proofs.Writes.{set-below, set-above}
 use Rattle.instructions.specs.declared.Addr.{Addr}
 use Rattle.instructions.specs.declared.Var.{Var}
 use Rattle.instructions.specs.declared.Instruction.{Instruction}
-use Rattle.instructions.specs.declared.Instruction.the-variants.{Inc, Pop, Push0, Load, Store, If, Enter, Exit, New, Start, Throw, Return, Nothing}
+use Rattle.instructions.specs.declared.Instruction.the-variants.{Inc, Pop, Push0, Load, Store, If, Enter, Exit, New, Start, Throw, Return, Get, Put, Nothing}
 use Rattle.instructions.proofs.Table.{InstructionFits}
 use Rattle.bundle.specs.Program.{Method, Program, programOf}
 use Rattle.structure.proofs.Structured.{WellFormed}
 use Rattle.values.specs.declared.Slot.{Slot}
-use Rattle.values.specs.Values.{zeroSlot, refSlot, isInt, incSlot, jumps, refers}
+use Rattle.values.specs.Values.{zeroSlot, refSlot, isNull, isRef, incSlot, jumps, refers}
 use Rattle.threads.specs.declared.Thread.{Thread}
 use Rattle.threads.specs.Threads.{fromTop, topOf, varOf, withAt, topped, pushed, popped, stored, ended, started}
 use Rattle.state.specs.declared.State.{State}
-use Rattle.state.specs.State.{threadAt, countOf, withThread, withCount, withObject, freeOf, othersFree, isFree, holdsNothing, lowestFree}
+use Rattle.state.specs.State.{threadAt, countOf, withThread, withCount, withField, withObject, freeOf, othersFree, isFree, holdsNothing, lowestFree}
 use Rattle.belongs.specs.Belongs.{stateOk}
 use Rattle.belongs.proofs.Belongs.{Placed, Belongs, refers-object, belongs-elim, belongs-intro}
 use Rattle.machine.specs.declared.Stepped.{Stepped}
-use Rattle.machine.specs.Faults.{lockOf, topFault, intFault, pushFault, enterFault, exitFault, endFault, throwFault, athrowFault, newFails, newFault, startFault, faultOf}
+use Rattle.machine.specs.Faults.{lockOf, topFault, intFault, pushFault, enterFault, exitFault, endFault, throwFault, athrowFault, newFails, newFault, startFault, getFault, putFault, faultOf}
 use Rattle.machine.specs.Waits.{enterWait, waitOf}
-use Rattle.machine.specs.Moves.{wentTo, wentOn, incMove, storeMove, ifMove, counted, enterMove, exitMove, endMove, caught, throwMove, makeMove, newMove, startMove, moveOf}
+use Rattle.machine.specs.Moves.{wentTo, wentOn, incMove, storeMove, ifMove, counted, enterMove, exitMove, endMove, caught, throwMove, firstFields, makeMove, newMove, getMove, putMove, startMove, moveOf}
 use Rattle.machine.specs.Machine.{stepOf}
 use Rattle.machine.proofs.Refusals.{tested, either, methodHere, instructionHere, Moving, step-by}
-use Rattle.machine.proofs.Moved.{refers-inc, placed-more, Moved, unmoved, entry-refers, moved-topped, moved-pushed, moved-popped, moved-stored, moved-placed}
-use Rattle.machine.proofs.Changes.{grown, thread-belongs, count-belongs, object-belongs}
+use Rattle.machine.proofs.Moved.{refers-inc, placed-more, a-ref, owner, Moved, unmoved, entry-refers, moved-topped, moved-pushed, moved-popped, moved-stored, moved-placed}
+use Rattle.machine.proofs.Changes.{grown, first-refers, thread-belongs, count-belongs, field-belongs, object-belongs}
 
 pub record Stays (P : Program) (r : Stepped) : Type 0 where
   pub stays : Belongs P (r .state)
@@ -79,8 +79,8 @@ module _ (P : Program) (wf : WellFormed P) (s : State) (h : Belongs P s) (i : �
   if-stays k a f g = either (Stays P) (jumps (topOf t)) _ _ (λ _. pop-stays (a .0) f g) (λ _. pop-stays (t .at .0 + 1) (omega arith) (omega arith))
 
   -- the object that a variable in use refers to
-  known : (v : Var) → v .0 < method .vars → not (isInt (varOf t (v .0))) ≡ true → lockOf t v < s .objects
-  known v b e = refers-object (s .objects) (varOf t (v .0)) (p .variable-refers (v .0) b) (not-true _ e)
+  known : (v : Var) → v .0 < method .vars → isRef (varOf t (v .0)) ≡ true → lockOf t v < s .objects
+  known v b e = refers-object (s .objects) (varOf t (v .0)) (p .variable-refers (v .0) b) e
 
   counted-stays : threadAt s i .live ≡ true → t .at .0 < method .code → (o n : ℕ) → o < s .objects → n ≤ 2047
       → ((j : ℕ) → j < 8 → 0 < countOf (s .counts) j o → j ≡ i) → Stays P (counted s i t o n)
@@ -96,13 +96,6 @@ module _ (P : Program) (wf : WellFormed P) (s : State) (h : Belongs P s) (i : �
       go : (q : Bool) → eqb j i ≡ q → j ≡ i
       go true q = eqb-true j i q
       go false q = absurd (omega (arith, eqb-true (countOf (s .counts) j o) 0 (or-right (eqb j i) _ free q)))
-
-  enter-stays : threadAt s i .live ≡ true → t .at .0 < method .code → (v : Var) → v .0 < method .vars
-      → enterFault (s .counts) i t v ≡ 0 → enterWait (s .counts) i t v ≡ 0 → Stays P (enterMove s i t v)
-  enter-stays a k v b f w =
-      let e = tested _ _ _ f in
-      let few = ltb-true (countOf (s .counts) i (lockOf t v)) 2047 (tested _ _ _ (e .1) .0) in
-      counted-stays a k (lockOf t v) _ (known v b (e .0)) (omega arith) (λ j. others-free _ j (tested _ _ _ w .0))
 
   exit-stays : threadAt s i .live ≡ true → t .at .0 < method .code → (v : Var) → v .0 < method .vars → exitFault (s .counts) i t v ≡ 0
       → Stays P (exitMove s i t v)
@@ -127,21 +120,52 @@ module _ (P : Program) (wf : WellFormed P) (s : State) (h : Belongs P s) (i : �
       (moved-pushed P (s .objects) t (popped (t .depth) t) (moved-popped P (s .objects) t t as-was (t .depth)) x r (omega arith) (wf .limit-16 (t .class) (p .class-known)))
       (a .0) (omega (arith, eqb-false (a .0) 0 e)) g)
 
+  -- null throws object 0
+  null-stays : (vars : ℕ) (a : Addr) → a .0 ≤ method .code → throwFault (s .counts) i (method .limit) a ≡ 0 → Stays P (throwMove s i t vars a (refSlot 0))
+  null-stays vars a g = throw-stays vars a (refSlot 0) g (lt-ltb 0 (s .objects) (omega (arith, h .some-object)))
+
+  enter-stays : threadAt s i .live ≡ true → t .at .0 < method .code → (vars : ℕ) (v : Var) → v .0 < method .vars → (a : Addr) → a .0 ≤ method .code
+      → enterFault (s .counts) i t v (method .limit) a ≡ 0 → enterWait (s .counts) i t v ≡ 0 → Stays P (enterMove s i t vars v a)
+  enter-stays live′ k vars v b a g f w =
+      let e = tested _ _ _ f in
+      either (Stays P) (isNull (varOf t (v .0))) _ _ (λ n. null-stays vars a g (rw n at (e .1)))
+      (λ n. let few = ltb-true (countOf (s .counts) i (lockOf t v)) 2047 (tested _ _ _ (rw n at (e .1)) .0) in
+      counted-stays live′ k (lockOf t v) _ (known v b (a-ref (varOf t (v .0)) (e .0) n)) (omega arith) (λ j. others-free _ j (tested _ _ _ (rw n at w) .0)))
+
   athrow-stays : (vars : ℕ) (a : Addr) → a .0 ≤ method .code → athrowFault s i t (P .exception) (method .limit) a ≡ 0 → Stays P (throwMove s i t vars a (topOf t))
   athrow-stays vars a g f = let e = tested _ _ _ f in throw-stays vars a (topOf t) g (top-refers (e .0)) (tested _ _ _ (e .1) .1)
 
-  make-stays : t .at .0 < method .code → (c : ℕ) → c < P .classes → s .objects < 32 → pushFault t (method .limit) ≡ 0 → Stays P (makeMove s i t c)
+  get-stays : t .at .0 < method .code → (vars c f : ℕ) → f < P .method c .fields → (a : Addr) → a .0 ≤ method .code
+      → getFault s i t c (method .limit) a ≡ 0 → Stays P (getMove s i t vars f a)
+  get-stays k vars c f b a g z =
+      let e = tested _ _ _ z in
+      let y = tested _ _ _ (e .1) in
+      either (Stays P) (isNull (topOf t)) _ _ (λ n. null-stays vars a g (rw n at (y .1)))
+      (λ n. let o = owner (s .objects) (s .classes) c (topOf t) (top-refers (e .0)) (y .0) n in
+      on s h (topped t _) (moved-topped P (s .objects) t t as-was _ (h .field-refers _ f (o .0) (rw (o .1) b))) k)
+
+  put-stays : t .at .0 < method .code → (vars c d f : ℕ) (a : Addr) → a .0 ≤ method .code
+      → putFault s i t c d (method .limit) a ≡ 0 → Stays P (putMove s i t vars f a)
+  put-stays k vars c d f a g z =
+      let e = tested _ _ _ z in
+      let y = tested _ _ _ (e .1) in
+      let two = leb-true 2 (t .depth) (e .0) in
+      either (Stays P) (isNull (fromTop t 1)) _ _ (λ n. null-stays vars a g (rw n at (y .1)))
+      (λ n. on (withField s _ f (topOf t)) (field-belongs P s h _ f (topOf t) (entry-refers P (s .objects) t p 0 (omega arith)))
+      (popped 2 t) (moved-popped P (s .objects) t t as-was 2) k)
+
+  make-stays : t .at .0 < method .code → (c : ℕ) → c < P .classes → s .objects < 32 → pushFault t (method .limit) ≡ 0 → Stays P (makeMove P s i t c)
   unfolding withObject
   make-stays k c b m f =
       rw (lt-ltb (s .objects) 32 m)
-      (on (grown s c) (object-belongs P s h c b m) (pushed t (refSlot (s .objects)))
+      (on (grown s c (firstFields (P .method c))) (object-belongs P s h c _ b m (wf .fields-4) (first-refers (P .method c) (s .objects + 1))) (pushed t (refSlot (s .objects)))
       (moved-pushed P (s .objects + 1) t t (unmoved P (s .objects + 1) t (placed-more P (s .objects) t p)) _ (lt-ltb (s .objects) (s .objects + 1) (omega arith)) (ltb-true _ _ (tested _ _ _ f .0)) (wf .limit-16 (t .class) (p .class-known))) k)
 
   new-stays : t .at .0 < method .code → (vars c : ℕ) → c < P .classes → (a : Addr) → a .0 ≤ method .code → (fails : Bool)
-      → newFault s i t (method .limit) a fails ≡ 0 → Stays P (newMove s i t vars c a fails)
+      → newFault s i t (method .limit) a fails ≡ 0 → Stays P (newMove P s i t vars c a fails)
   new-stays k vars c b a g fails f =
       either (Stays P) (newFails s fails) _ _
-      (λ e. throw-stays vars a (refSlot 0) g (lt-ltb 0 (s .objects) (omega (arith, h .some-object))) (rw e at f))
+      (λ e. null-stays vars a g (rw e at f))
       (λ e. make-stays k c b (leb-false 32 (s .objects) (or-false-snd fails _ e)) (rw e at f))
 
   started-placed : (old : Thread) (c args : ℕ) → c < P .classes → args ≤ P .method c .vars → args < t .depth → Placed P (s .objects) (started old t c args)
@@ -184,7 +208,7 @@ module _ (P : Program) (wf : WellFormed P) (s : State) (h : Belongs P s) (i : �
 
   -- by what the table says of the instruction and of the last address
   move-stays : threadAt s i .live ≡ true → (fails : Bool) (x : Instruction)
-      → InstructionFits (P .classes) (method .vars) (method .code) (t .at .0) x
+      → InstructionFits (P .classes) (λ d. P .method d .fields) (method .vars) (method .code) (t .at .0) x
       → faultOf P s i t method fails x ≡ 0 → waitOf s i t x ≡ 0 → Stays P (moveOf P s i t method fails x)
   move-stays a fails Inc e f w = inc-stays e f
   move-stays a fails Pop e f w = pop-stays (t .at .0 + 1) (omega arith) (omega arith)
@@ -192,12 +216,14 @@ module _ (P : Program) (wf : WellFormed P) (s : State) (h : Belongs P s) (i : �
   move-stays a fails (Load v) e f w = push-stays (e .1) (varOf t (v .0)) (p .variable-refers (v .0) (e .0)) f
   move-stays a fails (Store v) e f w = store-stays (e .1) v f
   move-stays a fails (If b) e f w = if-stays (e .1) b (e .0 .0) (e .0 .1)
-  move-stays a fails (Enter v) e f w = enter-stays a (e .1) v (e .0) f w
+  move-stays a fails (Enter v b) e f w = enter-stays a (e .2) (method .vars) v (e .0) b (e .1) f w
   move-stays a fails (Exit v) e f w = exit-stays a (e .1) v (e .0) f
   move-stays a fails (New c b) e f w = new-stays (e .2) (method .vars) c (e .0) b (e .1) fails f
   move-stays a fails (Start c) e f w = start-stays (e .1) c (e .0) f
   move-stays a fails (Throw b) e f w = athrow-stays (method .vars) b e f
   move-stays a fails Return e f w = end-stays (method .vars) 1 f
+  move-stays a fails (Get c d b) e f w = get-stays (e .3) (method .vars) c d (e .1) b (e .2) f
+  move-stays a fails (Put c d b) e f w = put-stays (e .3) (method .vars) c (P .method c .field d) d b (e .2) f
   move-stays a fails Nothing e f w = absurd e
 
 step-stays : (b : List ℕ) (s : State) (i : ℕ) (fails : Bool) → Belongs (programOf b) s → Stays (programOf b) (stepOf b s i fails)

@@ -1,6 +1,7 @@
 // return, athrow and new.
 ghost use mathlib.Core.Path.{_≡_};
 ghost use Prim.Native.Nat.{_<_};
+ghost use Rattle.bundle.specs.Program.{programOf};
 ghost use Rattle.threads.specs.Threads.{topOf};
 ghost use Rattle.state.specs.declared.State.{State};
 ghost use Rattle.state.specs.State.{withThread};
@@ -9,6 +10,7 @@ ghost use Rattle.machine.specs.Faults.{pushFault, endFault, throwFault, 
 ghost use Rattle.machine.specs.Moves.{endMove, throwMove, makeMove, newMove};
 use crate::Stepped;
 use crate::Turn;
+use crate::fields;
 use crate::moves;
 use crate::starts;
 use instructions::Addr;
@@ -34,7 +36,15 @@ pub(crate) fn end_turn(counts: &[u16], i: u8, t: Thread, vars: u8, n: u8) -> Tur
 }
 
 // x is thrown.
-fn throw_turn(counts: &[u16], i: u8, t: Thread, limit: u8, vars: u8, h: Addr, x: Slot) -> Turn
+pub(crate) fn throw_turn(
+    counts: &[u16],
+    i: u8,
+    t: Thread,
+    limit: u8,
+    vars: u8,
+    h: Addr,
+    x: Slot,
+) -> Turn
     ensures { λ r. ⌜ (r .fault ≡ throwFault (now (counts .entry)) i limit h) × (r .fault ≡ 0 → (s : State) → record { answer = r .answer; state = withThread s i (r .thread) } ≡ throwMove s i t vars h x) ⌝ }
 {
     if h.0 == 0 {
@@ -82,9 +92,9 @@ pub(crate) fn athrow_step(
     moves::settle(s, i, throw_turn(&s.counts, i, t, limit, vars, h, x))
 }
 
-fn make_step(s: State, i: u8, t: Thread, limit: u8, c: u8) -> Stepped
+fn make_step(b: &[u8], s: State, i: u8, t: Thread, limit: u8, c: u8) -> Stepped
     requires { ⌜ t .at .0 < 65535 ⌝ }
-    ensures { λ r. ⌜ r ≡ unlessDrawn (pushFault t limit) s (makeMove s i t c) ⌝ }
+    ensures { λ r. ⌜ r ≡ unlessDrawn (pushFault t limit) s (makeMove (programOf (now (b .entry))) s i t c) ⌝ }
 {
     if limit <= t.depth {
         return Stepped {
@@ -93,12 +103,14 @@ fn make_step(s: State, i: u8, t: Thread, limit: u8, c: u8) -> Stepped
         };
     }
     let u = threads::push(t, values::ref_slot(s.objects));
-    let next = state::add_object(s, c);
+    let first = fields::first_fields(b, c);
+    let next = state::add_object(s, c, first);
     moves::went_on(next, i, t.at, u)
 }
 
 // A failed new throws object 0.
 pub(crate) fn new_step(
+    b: &[u8],
     s: State,
     i: u8,
     t: Thread,
@@ -109,7 +121,7 @@ pub(crate) fn new_step(
     fails: bool,
 ) -> Stepped
     requires { ⌜ t .at .0 < 65535 ⌝ }
-    ensures { λ r. ⌜ r ≡ unlessDrawn (newFault s i t limit h fails) s (newMove s i t vars c h fails) ⌝ }
+    ensures { λ r. ⌜ r ≡ unlessDrawn (newFault s i t limit h fails) s (newMove (programOf (now (b .entry))) s i t vars c h fails) ⌝ }
 {
     if fails || 32 <= s.objects {
         return moves::settle(
@@ -118,5 +130,5 @@ pub(crate) fn new_step(
             throw_turn(&s.counts, i, t, limit, vars, h, values::ref_slot(0)),
         );
     }
-    make_step(s, i, t, limit, c)
+    make_step(b, s, i, t, limit, c)
 }

@@ -1,5 +1,6 @@
 // The machine of document 01: a fresh machine, and one step of one thread. Each call checks bundle and state for itself.
 mod ends;
+mod fields;
 mod locks;
 mod moves;
 mod stack;
@@ -53,9 +54,11 @@ pub fn fresh(b: &[u8]) -> Stepped
             state: s,
         };
     }
+    let c = bundle::exception(b);
+    let first = fields::first_fields(b, c);
     Stepped {
         answer: 0,
-        state: state::put_thread(state::add_object(s, bundle::exception(b)), 0, main_thread()),
+        state: state::put_thread(state::add_object(s, c, first), 0, main_thread()),
     }
 }
 
@@ -82,9 +85,9 @@ fn run(b: &[u8], s: State, i: u8, fails: bool) -> Stepped
         Instruction::Load(v) => stack::load_step(s, i, t, k.limit, v),
         Instruction::Store(v) => stack::store_step(s, i, t, v),
         Instruction::If(a) => stack::if_step(s, i, t, a),
-        Instruction::Enter(v) => locks::enter_step(s, i, t, v),
+        Instruction::Enter(v, h) => locks::enter_step(s, i, t, k.limit, k.vars, v, h),
         Instruction::Exit(v) => locks::exit_step(s, i, t, v),
-        Instruction::New(c, h) => ends::new_step(s, i, t, k.limit, k.vars, c, h, fails),
+        Instruction::New(c, h) => ends::new_step(b, s, i, t, k.limit, k.vars, c, h, fails),
         Instruction::Start(c) => starts::start_class(b, s, i, t, c),
         Instruction::Throw(h) => ends::athrow_step(
             s,
@@ -96,6 +99,18 @@ fn run(b: &[u8], s: State, i: u8, fails: bool) -> Stepped
             h,
         ),
         Instruction::Return => moves::settle(s, i, ends::end_turn(&s.counts, i, t, k.vars, 1)),
+        Instruction::Get(c, f, h) => fields::get_step(s, i, t, k.limit, k.vars, c, f, h),
+        Instruction::Put(c, f, h) => fields::put_step(
+            s,
+            i,
+            t,
+            fields::descriptor(b, c, f),
+            k.limit,
+            k.vars,
+            c,
+            f,
+            h,
+        ),
         Instruction::Nothing => Stepped {
             answer: 17,
             state: s,

@@ -6,14 +6,25 @@ ghost use Rattle.machine.specs.Faults.{enterFault, exitFault};
 ghost use Rattle.machine.specs.Waits.{enterWait};
 ghost use Rattle.machine.specs.Moves.{enterMove, exitMove};
 use crate::Stepped;
+use crate::ends;
 use crate::moves;
+use instructions::Addr;
 use instructions::Var;
 use state::State;
 use threads::Thread;
 
-pub(crate) fn enter_step(s: State, i: u8, t: Thread, v: Var) -> Stepped
+// Null throws object 0, as a failed new does.
+pub(crate) fn enter_step(
+    s: State,
+    i: u8,
+    t: Thread,
+    limit: u8,
+    vars: u8,
+    v: Var,
+    h: Addr,
+) -> Stepped
     requires { ⌜ t .at .0 < 65535 ⌝ }
-    ensures { λ r. ⌜ r ≡ unlessDrawn (enterFault (s .counts) i t v) s (unlessDrawn (enterWait (s .counts) i t v) s (enterMove s i t v)) ⌝ }
+    ensures { λ r. ⌜ r ≡ unlessDrawn (enterFault (s .counts) i t v limit h) s (unlessDrawn (enterWait (s .counts) i t v) s (enterMove s i t vars v h)) ⌝ }
 {
     let x = threads::var(t, v);
     if values::is_int(x) {
@@ -21,6 +32,13 @@ pub(crate) fn enter_step(s: State, i: u8, t: Thread, v: Var) -> Stepped
             answer: 13,
             state: s,
         };
+    }
+    if values::is_null(x) {
+        return moves::settle(
+            s,
+            i,
+            ends::throw_turn(&s.counts, i, t, limit, vars, h, values::ref_slot(0)),
+        );
     }
     let o = values::object_of(x);
     let n = state::count(&s.counts, i, o);
@@ -45,7 +63,7 @@ pub(crate) fn exit_step(s: State, i: u8, t: Thread, v: Var) -> Stepped
     ensures { λ r. ⌜ r ≡ unlessDrawn (exitFault (s .counts) i t v) s (exitMove s i t v) ⌝ }
 {
     let x = threads::var(t, v);
-    if values::is_int(x) {
+    if !values::is_ref(x) {
         return Stepped {
             answer: 13,
             state: s,

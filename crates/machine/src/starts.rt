@@ -16,7 +16,7 @@ use values::Slot;
 pub(crate) fn is_object(classes: &[u8], c: u8, x: Slot) -> bool
     ensures { λ r. ⌜ r ≡ isObject (now (classes .entry)) c x ⌝ }
 {
-    if values::is_int(x) {
+    if !values::is_ref(x) {
         return false;
     }
     ground::byte(classes, values::object_of(x) as usize) == c

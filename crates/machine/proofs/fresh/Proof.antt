@@ -1,5 +1,6 @@
 use borrow.Author.Tests.{eq-eqb, ne-eqb}
 use Rattle.ground.specs.Chain.{refuse}
+use Rattle.bundle.specs.Program.{programOf}
 use Rattle.machine.specs.Machine.{freshOf}
 use borrow.Author.Needs.{needs}
 use Rattle.machine.proofs.fresh.Statement.{statement}
@@ -18,6 +19,9 @@ returns c = rw (c .before .before .before .empty-state .ensures, rw (c .before .
 exception-requires : tie.Need-exception-requires
 exception-requires c κs = search needs
 
+first-fields-requires : tie.Need-first-fields-requires
+first-fields-requires c κs = search needs
+
 add-object-requires : tie.Need-add-object-requires
 add-object-requires c κs = search needs
 
@@ -28,8 +32,8 @@ put-thread-requires : tie.Need-put-thread-requires
 put-thread-requires c κs = search needs
 
 returns-2 : tie.Need-returns-2
-unfolding freshOf refuse
-returns-2 c = rw (c .put-thread .ensures, c .before .main-thread .ensures, c .before .before .add-object .ensures, c .before .before .before .exception .ensures, c .before .before .before .before .before .before .before .empty-state .ensures, rw (c .before .before .before .before .before .before .structure .ensures) at (eq-eqb _ _ (c .before .before .before .before .if1 .left)))
+unfolding freshOf refuse programOf
+returns-2 c = rw (c .put-thread .ensures, c .before .main-thread .ensures, c .before .before .add-object .ensures, c .before .before .before .first-fields .ensures, c .before .before .before .before .exception .ensures, c .before .before .before .before .before .before .before .before .empty-state .ensures, rw (c .before .before .before .before .before .before .before .structure .ensures) at (eq-eqb _ _ (c .before .before .before .before .before .if1 .left)))
 
 pub fresh-spec : {M : Type 1} → statement M
 fresh-spec =
@@ -39,6 +43,7 @@ fresh-spec =
     structure-requires
     returns
     exception-requires
+    first-fields-requires
     add-object-requires
     main-thread-requires
     put-thread-requires

@@ -105,6 +105,21 @@ end-turn-requires c κs = search needs
 settle-requires : tie.Need-settle-requires
 settle-requires c κs = search needs
 
+enum-known-x-9 : tie.Need-enum-known-x-9
+enum-known-x-9 c = search needs
+
+get-step-requires : tie.Need-get-step-requires
+get-step-requires c κs = next-fits _ (c .before .before .before .before .before .before .before .before .before .before .args .t2) _ _ (search (needs, length-mapped)) (c .before .before .before .before .before .before .before .before .before .before .pre) (c .before .before .before .before .before .before .if1 .left)
+
+enum-known-x-10 : tie.Need-enum-known-x-10
+enum-known-x-10 c = search needs
+
+descriptor-requires : tie.Need-descriptor-requires
+descriptor-requires c κs = search needs
+
+put-step-requires : tie.Need-put-step-requires
+put-step-requires c κs = next-fits _ (c .before .before .before .before .before .before .before .before .before .before .before .args .t2) _ _ (search (needs, length-mapped)) (c .before .before .before .before .before .before .before .before .before .before .before .pre) (c .before .before .before .before .before .before .before .if1 .left)
+
 enum-told-5 : tie.Need-enum-told-5
 enum-told-5 c = search needs
 
@@ -145,6 +160,7 @@ returns-7 c =
     (rw (c .if-step .ensures, c .before .before .x3 .given .1))
 
 returns-8 : tie.Need-returns-8
+unfolding methodOf
 returns-8 c =
     runs _ (c .before .before .before .before .before .before .before .before .before .before .before .args .t2) _ _ (search (needs, length-mapped, c .before .before .before .before .before .before .before .before .before .before .before .good)) (c .before .before .before .before .before .before .before .before .before .before .before .pre) _ (c .before .before .before .before .before .before .before .if1 .left) (c .before .before .before .before .before .before .class-at .ensures) (c .before .before .before .before .before .part-of .ensures .0) (c .before .before .before .before .instruction-at .ensures)
     (rw (c .enter-step .ensures, c .before .before .x4 .given .1))
@@ -180,8 +196,20 @@ returns-13 c =
     (rw (c .before .before .before .before .before .enum-told4 .given .1) (c .settle .ensures ∙ drawn-same (c .before .before .before .before .before .before .before .before .before .before .before .before .before .before .args .t2) (c .before .end-turn .ensures .0) (λ q. c .before .end-turn .ensures .1 q (c .before .before .before .before .before .before .before .before .before .before .before .before .before .before .args .t2))))
 
 returns-14 : tie.Need-returns-14
-unfolding unlessDrawn refuse
+unfolding methodOf unlessDrawn refuse
 returns-14 c =
+    runs _ (c .before .before .before .before .before .before .before .before .before .before .before .args .t2) _ _ (search (needs, length-mapped, c .before .before .before .before .before .before .before .before .before .before .before .good)) (c .before .before .before .before .before .before .before .before .before .before .before .pre) _ (c .before .before .before .before .before .before .before .if1 .left) (c .before .before .before .before .before .before .class-at .ensures) (c .before .before .before .before .before .part-of .ensures .0) (c .before .before .before .before .instruction-at .ensures)
+    (rw (c .get-step .ensures, c .before .before .x9 .given .1))
+
+returns-15 : tie.Need-returns-15
+unfolding methodOf programOf unlessDrawn refuse
+returns-15 c =
+    runs _ (c .before .before .before .before .before .before .before .before .before .before .before .before .args .t2) _ _ (search (needs, length-mapped, c .before .before .before .before .before .before .before .before .before .before .before .before .good)) (c .before .before .before .before .before .before .before .before .before .before .before .before .pre) _ (c .before .before .before .before .before .before .before .before .if1 .left) (c .before .before .before .before .before .before .before .class-at .ensures) (c .before .before .before .before .before .before .part-of .ensures .0) (c .before .before .before .before .before .instruction-at .ensures)
+    (rw (c .put-step .ensures, c .before .descriptor .ensures, c .before .before .before .x10 .given .1))
+
+returns-16 : tie.Need-returns-16
+unfolding unlessDrawn refuse
+returns-16 c =
     runs _ (c .before .before .before .before .before .before .before .before .before .args .t2) _ _ (search (needs, length-mapped, c .before .before .before .before .before .before .before .before .before .good)) (c .before .before .before .before .before .before .before .before .before .pre) _ (c .before .before .before .before .before .if1 .left) (c .before .before .before .before .class-at .ensures) (c .before .before .before .part-of .ensures .0) (c .before .before .instruction-at .ensures)
     (rw (c .enum-told5 .given .1))
 
@@ -221,6 +249,11 @@ run-spec =
     enum-told-4
     end-turn-requires
     settle-requires
+    enum-known-x-9
+    get-step-requires
+    enum-known-x-10
+    descriptor-requires
+    put-step-requires
     enum-told-5
     returns-2
     returns-3
@@ -234,4 +267,6 @@ run-spec =
     returns-11
     returns-12
     returns-13
-    returns-14)
+    returns-14
+    returns-15
+    returns-16)

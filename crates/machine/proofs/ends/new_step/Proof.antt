@@ -17,8 +17,8 @@ settle-requires c κs = search needs
 returns : tie.Need-returns
 returns c =
     ⊎-elim
-    (λ w. rw (w .taken, ← c .before .before .ref-slot .ensures) (c .settle .ensures ∙ drawn-same _ (c .before .throw-turn .ensures .0) (λ q. c .before .throw-turn .ensures .1 q (c .before .before .before .before .before .before .before .args .t1))))
-    (λ w. rw (w .0 .left, w .1 .taken, ← c .before .before .ref-slot .ensures) (c .settle .ensures ∙ drawn-same _ (c .before .throw-turn .ensures .0) (λ q. c .before .throw-turn .ensures .1 q (c .before .before .before .before .before .before .before .args .t1))))
+    (λ w. rw (w .taken, ← c .before .before .ref-slot .ensures) (c .settle .ensures ∙ drawn-same _ (c .before .throw-turn .ensures .0) (λ q. c .before .throw-turn .ensures .1 q (c .before .before .before .before .before .before .before .before .args .t2))))
+    (λ w. rw (w .0 .left, w .1 .taken, ← c .before .before .ref-slot .ensures) (c .settle .ensures ∙ drawn-same _ (c .before .throw-turn .ensures .0) (λ q. c .before .throw-turn .ensures .1 q (c .before .before .before .before .before .before .before .before .args .t2))))
     (c .before .before .before .before .before .before .if1 .came)
 
 make-step-requires : tie.Need-make-step-requires

@@ -1,4 +1,5 @@
 use borrow.Author.Tests.{lt-ltb, le-ltb}
+use Rattle.ground.proofs.Bools.{passed, failed}
 use Rattle.ground.specs.Chain.{refuse}
 use Rattle.machine.specs.Answers.{unlessDrawn}
 use borrow.Author.Needs.{needs}
@@ -8,12 +9,12 @@ use Rattle.machine.proofs.locks.exit_step.Tie as tie
 var-requires : tie.Need-var-requires
 var-requires c κs = search needs
 
-is-int-requires : tie.Need-is-int-requires
-is-int-requires c κs = search needs
+is-ref-requires : tie.Need-is-ref-requires
+is-ref-requires c κs = search needs
 
 returns : tie.Need-returns
 unfolding unlessDrawn refuse
-returns c = rw (rw (c .before .is-int .ensures, c .before .before .var .ensures) at (c .if1 .taken))
+returns c = rw (← c .before .before .var .ensures, failed (c .before .is-ref .ensures) (c .if1 .taken))
 
 object-of-requires : tie.Need-object-of-requires
 object-of-requires c κs = search needs
@@ -23,7 +24,7 @@ count-requires c κs = search needs
 
 returns-2 : tie.Need-returns-2
 unfolding unlessDrawn refuse
-returns-2 c = rw (← c .before .before .before .before .before .before .before .before .var .ensures, ← c .before .before .before .before .before .before .before .is-int .ensures, c .before .before .before .before .before .before .if1 .left, ← c .before .before .before .before .before .object-of .ensures, ← c .before .count .ensures, le-ltb _ _ (c .if2 .taken))
+returns-2 c = rw (← c .before .before .before .before .before .before .before .before .var .ensures, passed (c .before .before .before .before .before .before .before .is-ref .ensures) (c .before .before .before .before .before .before .if1 .left), ← c .before .before .before .before .before .object-of .ensures, ← c .before .count .ensures, le-ltb _ _ (c .if2 .taken))
 
 sub-put-count : tie.Need-sub-put-count
 sub-put-count c = search needs
@@ -36,14 +37,14 @@ went-on-requires c κs = search needs
 
 returns-3 : tie.Need-returns-3
 unfolding unlessDrawn refuse
-returns-3 c = rw (c .went-on .ensures, c .before .put-count .ensures, ← c .before .before .before .before .before .before .before .before .before .before .var .ensures, ← c .before .before .before .before .before .before .before .before .before .is-int .ensures, c .before .before .before .before .before .before .before .before .if1 .left, ← c .before .before .before .before .before .before .before .object-of .ensures, ← c .before .before .before .count .ensures, lt-ltb _ _ (c .before .before .if2 .left))
+returns-3 c = rw (c .went-on .ensures, c .before .put-count .ensures, ← c .before .before .before .before .before .before .before .before .before .before .var .ensures, passed (c .before .before .before .before .before .before .before .before .before .is-ref .ensures) (c .before .before .before .before .before .before .before .before .if1 .left), ← c .before .before .before .before .before .before .before .object-of .ensures, ← c .before .before .before .count .ensures, lt-ltb _ _ (c .before .before .if2 .left))
 
 pub exit-step-spec : {M : Type 1} → statement M
 exit-step-spec =
     tie.close
     (tie.spec
     var-requires
-    is-int-requires
+    is-ref-requires
     returns
     object-of-requires
     count-requires

@@ -1,12 +1,13 @@
+use Rattle.ground.proofs.Bools.{passed, failed}
 use borrow.Author.Needs.{needs}
 use Rattle.machine.proofs.starts.is_object.Statement.{statement}
 use Rattle.machine.proofs.starts.is_object.Tie as tie
 
-is-int-requires : tie.Need-is-int-requires
-is-int-requires c κs = search needs
+is-ref-requires : tie.Need-is-ref-requires
+is-ref-requires c κs = search needs
 
 returns : tie.Need-returns
-returns c = search needs
+returns c = rw (failed (c .before .is-ref .ensures) (c .if1 .taken))
 
 object-of-requires : tie.Need-object-of-requires
 object-of-requires c κs = search needs
@@ -18,9 +19,9 @@ byte-requires : tie.Need-byte-requires
 byte-requires c κs = search needs
 
 returns-2 : tie.Need-returns-2
-returns-2 c = rw (c .byte .ensures, c .before .object-of .ensures, rw (c .before .before .before .is-int .ensures) at (c .before .before .if1 .left))
+returns-2 c = rw (c .byte .ensures, c .before .object-of .ensures, passed (c .before .before .before .is-ref .ensures) (c .before .before .if1 .left))
 
 pub is-object-spec : {M : Type 1} → statement M
 is-object-spec =
     tie.close
-    (tie.spec is-int-requires returns object-of-requires cast-byte byte-requires returns-2)
+    (tie.spec is-ref-requires returns object-of-requires cast-byte byte-requires returns-2)

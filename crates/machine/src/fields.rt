@@ -1,0 +1,148 @@
+// getfield and putfield, and what the fields of a new object hold.
+ghost use mathlib.Core.Path.{_≡_};
+ghost use Prim.Native.Nat.{_<_};
+ghost use Rattle.bundle.specs.Program.{methodOf, methodAt};
+ghost use Rattle.machine.specs.Answers.{unlessDrawn};
+ghost use Rattle.machine.specs.Faults.{isOwner, isFieldValue, getFault, putFault};
+ghost use Rattle.machine.specs.Moves.{firstField, firstFields, getMove, putMove};
+use crate::Stepped;
+use crate::ends;
+use crate::moves;
+use crate::starts;
+use bundle::Class;
+use instructions::Addr;
+use state::State;
+use threads::Thread;
+use values::Slot;
+
+// `r` is the record of the class.
+fn first_field(k: Class, r: &[u8], j: u8) -> Slot
+    ensures { λ x. ⌜ x ≡ firstField (methodOf k (now (r .entry))) j ⌝ }
+{
+    if k.fields <= j {
+        return values::zero_slot();
+    }
+    if bundle::field_at(k, r, j) == 255 {
+        return values::zero_slot();
+    }
+    values::null_slot()
+}
+
+pub(crate) fn first_fields(b: &[u8], c: u8) -> [Slot; 4]
+    ensures { λ l. ⌜ l ≡ firstFields (methodAt (now (b .entry)) c) ⌝ }
+{
+    let k = bundle::class_at(b, c);
+    let r = bundle::part_of(b, k);
+    [
+        first_field(k, r, 0),
+        first_field(k, r, 1),
+        first_field(k, r, 2),
+        first_field(k, r, 3),
+    ]
+}
+
+// The descriptor of field f of class c.
+pub(crate) fn descriptor(b: &[u8], c: u8, f: u8) -> u8
+    ensures { λ d. ⌜ d ≡ methodAt (now (b .entry)) c .field f ⌝ }
+{
+    let k = bundle::class_at(b, c);
+    bundle::field_at(k, bundle::part_of(b, k), f)
+}
+
+fn is_owner(classes: &[u8], c: u8, x: Slot) -> bool
+    ensures { λ r. ⌜ r ≡ isOwner (now (classes .entry)) c x ⌝ }
+{
+    if values::is_null(x) {
+        return true;
+    }
+    starts::is_object(classes, c, x)
+}
+
+fn is_field_value(classes: &[u8], d: u8, x: Slot) -> bool
+    ensures { λ r. ⌜ r ≡ isFieldValue (now (classes .entry)) d x ⌝ }
+{
+    if d == 255 {
+        return values::is_int(x);
+    }
+    is_owner(classes, d, x)
+}
+
+// A null owner throws object 0, as a failed new does.
+pub(crate) fn get_step(
+    s: State,
+    i: u8,
+    t: Thread,
+    limit: u8,
+    vars: u8,
+    c: u8,
+    f: u8,
+    h: Addr,
+) -> Stepped
+    requires { ⌜ t .at .0 < 65535 ⌝ }
+    ensures { λ r. ⌜ r ≡ unlessDrawn (getFault s i t c limit h) s (getMove s i t vars f h) ⌝ }
+{
+    if t.depth < 1 {
+        return Stepped {
+            answer: 11,
+            state: s,
+        };
+    }
+    let x = threads::top(t);
+    if !is_owner(&s.classes, c, x) {
+        return Stepped {
+            answer: 13,
+            state: s,
+        };
+    }
+    if values::is_null(x) {
+        return moves::settle(
+            s,
+            i,
+            ends::throw_turn(&s.counts, i, t, limit, vars, h, values::ref_slot(0)),
+        );
+    }
+    let k = (values::object_of(x) as usize) * 4 + (f as usize);
+    let z = values::zero_slot();
+    let y = if k < 128 { s.fields[k] } else { z };
+    moves::went_on(s, i, t.at, threads::set_top(t, y))
+}
+
+// The value is on top, the owner below it; `d` is the field's descriptor.
+pub(crate) fn put_step(
+    s: State,
+    i: u8,
+    t: Thread,
+    d: u8,
+    limit: u8,
+    vars: u8,
+    c: u8,
+    f: u8,
+    h: Addr,
+) -> Stepped
+    requires { ⌜ t .at .0 < 65535 ⌝ }
+    ensures { λ r. ⌜ r ≡ unlessDrawn (putFault s i t c d limit h) s (putMove s i t vars f h) ⌝ }
+{
+    if t.depth < 2 {
+        return Stepped {
+            answer: 11,
+            state: s,
+        };
+    }
+    let x = threads::top(t);
+    let y = threads::from_top(t, 1);
+    if !(is_field_value(&s.classes, d, x) & is_owner(&s.classes, c, y)) {
+        return Stepped {
+            answer: 13,
+            state: s,
+        };
+    }
+    if values::is_null(y) {
+        return moves::settle(
+            s,
+            i,
+            ends::throw_turn(&s.counts, i, t, limit, vars, h, values::ref_slot(0)),
+        );
+    }
+    let next = state::put_field(s, values::object_of(y), f, x);
+    moves::went_on(next, i, t.at, threads::pop(t, 2))
+}
