@@ -1,4 +1,4 @@
--- return, and a throw: a thread ends only where everything may go, and then it ruleHolds nothing; a handler finds what was thrown.
+-- return, and a throw: a thread ends only where everything may go, and then it holds nothing; a handler finds what was thrown.
 use Prim.Native.Nat.{ℕ, _+_, _-_, _≤_, _<_}
 use mathlib.Core.Path.{_≡_, refl, _∙_}
 use mathlib.Core.List.{[], _∷_}

@@ -162,7 +162,7 @@ module _ (P : Typed) (A : Accepted P) (s : State) (inv : Inv P s) (i : ℕ) (li 
         good = x .good;
       }
 
-  -- monitorexit's rule: the thread ruleHolds the object that it leaves
+  -- monitorexit's rule: the thread holds the object that it leaves
   holds-it : isReference (here .variable (v .0)) ≡ true → Meets (here .variable (v .0)) (wantExited (next .variable (v .0))) → 0 < cnt O
   holds-it q m = omega (arith, m .dip, dip-promises vars w16 (s .objects) cls cnt here T e16 st (v .0) l q (known here st q))
 

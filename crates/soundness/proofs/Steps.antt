@@ -126,7 +126,7 @@ module _ (P : Typed) (A : Accepted P) (s : State) (inv : Inv P s) (i : ℕ) (li 
   unfolding runOf
   run-good fails = draws (Good P s i) s _ _ (λ n. absurd (n (no-fault fails))) (λ _. draws (Good P s i) s _ _ (waits X) (move-good fails))
 
-  -- at monitorexit, the thread ruleHolds the object
+  -- at monitorexit, the thread holds the object
   pub exit-held : (v : Var) → P .program .method C .instruction L ≡ Exit v → 0 < countOf (s .counts) i (objectOf (varOf T (v .0)))
   exit-held v q =
       let h : InstructionFits (P .program .classes) (λ d. P .program .method d .fields) vars code L (Exit v) = rw q at table-here in
