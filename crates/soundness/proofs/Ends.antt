@@ -1,8 +1,8 @@
--- return, and a throw: a thread ends only where everything may go, and then it ruleHolds nothing; a handler finds what was thrown.
+-- return, and a throw: a thread ends only where everything may go, and then it holds nothing; a handler finds what was thrown.
 use Prim.Native.Nat.{ℕ, _+_, _-_, _≤_, _<_}
 use mathlib.Core.Path.{_≡_, refl, _∙_}
 use mathlib.Core.List.{[], _∷_}
-use mathlib.Core.Bool.{true, false, _&&_}
+use mathlib.Core.Bool.{true, false, _&&_, _||_}
 use native.Mathlib.Omega.{arith}
 use native.Mathlib.Decide.{ℕ-discrete}
 use lib.Dec.{leb, eqb}
@@ -15,14 +15,14 @@ use Rattle.instructions.specs.declared.Addr.{Addr}
 use Rattle.bundle.specs.Program.{Address}
 use Rattle.rows.specs.Rows.{Row}
 use Rattle.rows.specs.Typed.{Typed}
-use Rattle.entries.specs.Entries.{Entry, noEnd, endOf, isOf}
+use Rattle.entries.specs.Entries.{Entry, noEnd, endOf, isReference, isNullable, isOf}
 use Rattle.entries.specs.Fits.{mayGo}
 use Rattle.matching.specs.Matching.{emptied, wants, edge, varsGo, entryGoes, stackGoes}
 use Rattle.matching.specs.Matching as rows
 use Rattle.rules.specs.Rule.{ruleHolds}
-use Rattle.rules.specs.Rules.{uncaughtGoes, thrown, made, throwRule, returnRule}
+use Rattle.rules.specs.Rules.{uncaughtGoes, thrown, made, failureGoes, nullGoes, nullThrown, throwRule, returnRule}
 use Rattle.values.specs.declared.Slot.{Slot}
-use Rattle.values.specs.Values.{zeroSlot, refSlot}
+use Rattle.values.specs.Values.{zeroSlot, refSlot, isNull}
 use Rattle.threads.specs.declared.Thread.{Thread}
 use Rattle.threads.specs.Threads.{topOf, popped, ended}
 use Rattle.state.specs.declared.State.{State}
@@ -31,7 +31,7 @@ use Rattle.machine.specs.Answers.{test}
 use Rattle.machine.specs.Faults.{endFault, throwFault, athrowFault}
 use Rattle.machine.specs.Moves.{wentTo, endMove, caught, throwMove}
 use Rattle.soundness.proofs.Balance.{all-go}
-use Rattle.soundness.proofs.Kind.{object-is}
+use Rattle.soundness.proofs.Kind.{Matches, null-entry, object-is}
 use Rattle.soundness.proofs.Held.{AllFit, held}
 use Rattle.soundness.proofs.Weights.{goes-end}
 use Rattle.soundness.proofs.Slots.{all-end}
@@ -111,7 +111,7 @@ module _ (P : Typed) (A : Accepted P) (s : State) (inv : Inv P s) (i : ℕ) (li 
       → Stands vars (s .objects) cls cnt (rows.pushed e (rows.popped (T .depth) here)) (caught T x)
       → Fine P s i (throwFault (s .counts) i limit h) 0 (throwMove s i T vars h x)
   unfolding uncaughtGoes thrown popped
-  throw-fine h e x l a sg f w = branches P s i (eqb (h .0) 0) _ _ _ _ none found
+  throw-fine h e x l a sg f w = branches P s i (eqb (h .0) 0) _ _ (λ _. 0) _ _ none found
     where
       none : eqb (h .0) 0 ≡ true → Fine P s i (endFault (s .counts) i) 0 (endMove s i T vars 2)
       none q =
@@ -134,17 +134,29 @@ module _ (P : Typed) (A : Accepted P) (s : State) (inv : Inv P s) (i : ℕ) (li 
           }
 
   -- a failed new throws object 0, as (0,0) of the exception class
-  pub failed-fine : (h : Addr) → h .0 ≤ P .program .method (T .class) .code → stackGoes here ≡ true → uncaughtGoes vars (h .0) (made (P .program .exception)) here ≡ true
+  pub failed-fine : (h : Addr) → h .0 ≤ P .program .method (T .class) .code → failureGoes vars (P .program .exception) (h .0) here ≡ true
       → AllFit vars (thrown (h .0) (made (P .program .exception)) here (P .row (T .class) (h .0))) → Fine P s i (throwFault (s .counts) i limit h) 0 (throwMove s i T vars h (refSlot 0))
-  unfolding stackGoes popped
-  failed-fine h l sg a f =
-      throw-fine h (made (P .program .exception)) (refSlot 0) l a (λ _. sg) f
+  unfolding failureGoes stackGoes popped
+  failed-fine h l a f =
+      throw-fine h (made (P .program .exception)) (refSlot 0) l (and-snd (stackGoes here) _ a) (λ _. sg) f
       (push-stands vars w16 (s .objects) cls cnt (rows.popped (T .depth) here) (popped (T .depth) T) (omega arith)
       (pop-stands vars w16 (s .objects) cls cnt here T e16 st (T .depth) (omega (arith, st .depth-exact)) goes)
       (refSlot 0) (made (P .program .exception)) (omega arith) refl refl (inv .whole .some-object, inv .whole .first-class))
     where
+      sg : stackGoes here ≡ true
+      sg = and-fst (stackGoes here) (uncaughtGoes vars (h .0) (made (P .program .exception)) here) a
+
       goes : (j : ℕ) → j < T .depth → noEnd ≤ endOf (here .stack j)
       goes j k = goes-end (here .stack j) (all-elim (entryGoes here) (here .depth) sg j (omega (arith, st .depth-exact)))
+
+  -- so does null: where a reference e holds it, e may be null, and the rule has the throw
+  pub null-fine : (h : Addr) (e : Entry) (x : Slot) → h .0 ≤ P .program .method (T .class) .code → (isReference e || isNullable e) ≡ true → Matches (s .objects) cls e (x .value) → isNull x ≡ true
+      → nullGoes vars (P .program .exception) (h .0) e here ≡ true → AllFit vars (nullThrown (P .program .exception) (h .0) e here (P .row (T .class) (h .0)))
+      → Fine P s i (throwFault (s .counts) i limit h) 0 (throwMove s i T vars h (refSlot 0))
+  unfolding nullGoes nullThrown
+  null-fine h e x l k m q a f =
+      let n : isNullable e ≡ true = null-entry (s .objects) cls e (x .value) k m q in
+      failed-fine h l (rw n at a) (rw n at f)
 
   pub athrow-fine : (h : Addr) → h .0 ≤ P .program .method (T .class) .code → ruleHolds vars (throwRule vars (P .program .exception) (h .0) here (P .row (T .class) (h .0))) ≡ true
       → Fine P s i (athrowFault s i T (P .program .exception) limit h) 0 (throwMove s i T vars h (topOf T))

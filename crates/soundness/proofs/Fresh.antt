@@ -11,7 +11,8 @@ use lib.IntN.{pos}
 use lib.ListN.{length, replicate, getD-replicate}
 use Rattle.ground.specs.Bounded.{setBelow}
 use Rattle.instructions.specs.Table.{addr}
-use Rattle.entries.specs.Entries.{Int, Top, Ref, Blank, noEnd, dipOf, endOf, argumentEntry}
+use Rattle.bundle.specs.Program.{Method}
+use Rattle.entries.specs.Entries.{Int, Top, Ref, Blank, noEnd, dipOf, endOf, argumentEntry, fieldEntry}
 use Rattle.rows.specs.Rows.{Row}
 use Rattle.rows.specs.Typed.{Typed}
 use Rattle.values.specs.declared.Value.the-variants.{Int as num}
@@ -19,7 +20,9 @@ use Rattle.values.specs.declared.Slot.{Slot}
 use Rattle.values.specs.Values.{zeroSlot}
 use Rattle.threads.specs.declared.Thread.{Thread}
 use Rattle.threads.specs.Threads.{idle}
-use Rattle.state.specs.State.{countOf, classOf, emptyState}
+use Rattle.state.specs.declared.State.{State}
+use Rattle.state.specs.State.{countOf, classOf, fieldOf, emptyState}
+use Rattle.machine.specs.Moves.{firstFields}
 use Rattle.machine.specs.Machine.{mainThread, freshState}
 use Rattle.machine.proofs.Changes.{grown}
 use Rattle.soundness.proofs.Kind.{Matches}
@@ -29,6 +32,7 @@ use Rattle.soundness.proofs.Weights as weights
 use Rattle.soundness.proofs.Balance.{keep-all, none-balanced}
 use Rattle.soundness.proofs.Slots.{slotOf, slot-var, slot-novar, slot-nostack}
 use Rattle.soundness.proofs.Values.{valueIn, value-zero}
+use Rattle.soundness.proofs.FieldPlaces.{fields-length, fields-written, made-kind}
 use Rattle.soundness.proofs.Accepted.{Accepted}
 use Rattle.soundness.proofs.Invariant.{entryAt, Live, Inv}
 use Rattle.soundness.proofs.Moves.{others, live-standing, asleep-standing, thread-moves, grown-is}
@@ -95,30 +99,46 @@ module _ (P : Typed) (A : Accepted P) where
   no-count : (i o : ℕ) → i < 8 → o < 32 → countOf (replicate 256 0) i o ≡ 0
   no-count i o l k = getD-replicate 256 (i * 32 + o) 0 0 (omega arith)
 
+  abbrev thrown : Method
+  thrown = P .program .method (P .program .exception)
+
   -- object 0 alone, and no live thread
-  inv-one : Inv P (grown emptyState (P .program .exception))
+  abbrev One : State
+  One = grown emptyState (P .program .exception) (firstFields (P .program .method (P .program .exception)))
+
+  first-field : (f : ℕ) → f < thrown .fields → Matches 1 (classOf One) (fieldEntry (thrown .field f)) (fieldOf (One .fields) 0 f .value)
+  first-field f l =
+      fields-written (replicate 128 zeroSlot) 0 (firstFields thrown) (λ (x : Slot). Matches 1 (classOf One) (fieldEntry (thrown .field f)) (x .value)) 0 f (omega arith) (omega (arith, few))
+      (λ _. made-kind 1 (classOf One) thrown f few l) (λ n. absurd (n refl))
+    where
+      few : thrown .fields ≤ 4
+      few = A .formed .fields-4 (P .program .exception) (A .formed .exception)
+
+  inv-one : Inv P One
   inv-one =
       record {
         whole = record {
           threads-8 = refl;
           counts-256 = refl;
           classes-32 = refl;
+          fields-128 = fields-length (replicate 128 zeroSlot) 0 (firstFields thrown);
           objects-32 = omega arith;
           some-object = omega arith;
           first-class = refl;
           object-class = λ o l. let q : o ≡ 0 = omega arith in rw q (A .formed .exception);
           one-holder = λ i j o li lj lo x z. no-count j o lj lo;
+          field-holds = λ o f l k. let q : o ≡ 0 = omega arith in rw q (first-field f (rw q at k));
         };
         thread = λ i l. rw (getD-replicate 8 i idle idle l)
-            (asleep-standing P 1 (classOf (grown emptyState (P .program .exception))) (countOf (replicate 256 0) i) idle refl
+            (asleep-standing P 1 (classOf One) (countOf (replicate 256 0) i) idle refl
             (record { sized = record { vars = refl; stack = refl }; free = λ o k. no-count i o l k }));
       }
 
   -- THEOREM: the invariant holds of the fresh machine
-  pub inv-fresh : Inv P (freshState (P .program .exception))
+  pub inv-fresh : Inv P (freshState (P .program))
   inv-fresh =
-      rw (grown-is emptyState (P .program .exception) (omega arith))
-      (thread-moves P (grown emptyState (P .program .exception)) 0 (omega arith) (others P (grown emptyState (P .program .exception)) inv-one 0) mainThread
-      (live-standing P 1 (classOf (grown emptyState (P .program .exception))) (countOf (replicate 256 0) 0) mainThread
-      (born-live 1 (classOf (grown emptyState (P .program .exception))) (countOf (replicate 256 0) 0) 0 (A .formed .some-class) (replicate 16 zeroSlot) (replicate 16 zeroSlot) refl refl
+      rw (grown-is emptyState (P .program .exception) (firstFields thrown) (omega arith))
+      (thread-moves P One 0 (omega arith) (others P One inv-one 0) mainThread
+      (live-standing P 1 (classOf One) (countOf (replicate 256 0) 0) mainThread
+      (born-live 1 (classOf One) (countOf (replicate 256 0) 0) 0 (A .formed .some-class) (replicate 16 zeroSlot) (replicate 16 zeroSlot) refl refl
       (λ o k. no-count 0 o (omega arith) k) (λ i l. absurd (omega (arith, A .formed .main-args))) (λ i l b. zeros i b))))

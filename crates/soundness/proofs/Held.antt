@@ -1,4 +1,4 @@
--- What a rule that ruleHolds says: all that it asks, and that along each edge every offer fits what is wanted.
+-- What a rule that holds says: all that it asks, and that along each edge every offer fits what is wanted.
 use mathlib.Core.List.{List, [], _∷_}
 use mathlib.Core.Path.{_≡_, refl}
 use mathlib.Core.Bool.{Bool, true, false, _&&_}

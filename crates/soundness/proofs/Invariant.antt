@@ -7,16 +7,16 @@ use native.Mathlib.Omega.{arith}
 use native.Mathlib.Decide.{ℕ-discrete, decLt}
 use lib.ListN.{length, getD}
 use Rattle.bundle.specs.Program.{Address}
-use Rattle.entries.specs.Entries.{Entry, noEnd, endOf}
+use Rattle.entries.specs.Entries.{Entry, noEnd, endOf, fieldEntry}
 use Rattle.rows.specs.Typed.{Typed}
 use Rattle.values.specs.Values.{zeroSlot, refers}
 use Rattle.threads.specs.declared.Thread.{Thread}
 use Rattle.threads.specs.Threads.{varOf, fromTop}
 use Rattle.state.specs.declared.State.{State}
-use Rattle.state.specs.State.{threadAt, countOf, classOf}
+use Rattle.state.specs.State.{threadAt, countOf, classOf, fieldOf}
 use Rattle.belongs.specs.Belongs.{stateOk}
 use Rattle.belongs.proofs.Belongs.{Placed, Counted, Belongs, belongs-intro}
-use Rattle.soundness.proofs.Kind.{type-refers}
+use Rattle.soundness.proofs.Kind.{Matches, type-refers, field-type}
 use Rattle.soundness.proofs.Weights.{names}
 use Rattle.soundness.proofs.Balance.{count-bound, far-free, held-slot}
 use Rattle.soundness.proofs.Slots.{slotOf, slot-each}
@@ -48,12 +48,16 @@ pub record Whole (P : Typed) (s : State) : Type 0 where
   pub threads-8 : length (s .threads) ≡ 8
   pub counts-256 : length (s .counts) ≡ 256
   pub classes-32 : length (s .classes) ≡ 32
+  pub fields-128 : length (s .fields) ≡ 128
   pub objects-32 : s .objects ≤ 32
-  -- object 0 is there, of the exception class: what a failed new throws
+  -- object 0 is there, of the exception class: what a failed new and null throw
   pub some-object : 1 ≤ s .objects
   pub first-class : classOf s 0 ≡ P .program .exception
   pub object-class : (o : ℕ) → o < s .objects → classOf s o < P .program .classes
   pub one-holder : (i j o : ℕ) → i < 8 → j < 8 → o < 32 → i ≢ j → 0 < countOf (s .counts) i o → countOf (s .counts) j o ≡ 0
+  -- every field in use holds what its descriptor allows; it weighs nothing
+  pub field-holds : (o f : ℕ) → o < s .objects → f < P .program .method (classOf s o) .fields
+      → Matches (s .objects) (classOf s) (fieldEntry (P .program .method (classOf s o) .field f)) (fieldOf (s .fields) o f .value)
 
 abbrev pub StandingAt : Typed → State → ℕ → Type 0
 StandingAt P s i = Standing P (s .objects) (classOf s) (countOf (s .counts) i) (threadAt s i)
@@ -118,6 +122,8 @@ module _ (P : Typed) (A : Accepted P) (s : State) (inv : Inv P s) where
         first-class = inv .whole .first-class;
         objects-32 = inv .whole .objects-32;
         object-class = inv .whole .object-class;
+        field-refers = λ o f l k.
+            type-refers (s .objects) (classOf s) (fieldEntry (P .program .method (classOf s o) .field f)) (fieldOf (s .fields) o f .value) (field-type (P .program .method (classOf s o) .field f)) (inv .whole .field-holds o f l k);
         counted = λ i o l k. counted i o l k (threadAt s i .live) refl;
         one-holder = λ i j o a b l d f. sole i j o a b l d f (ℕ-discrete i j);
       }

@@ -1,20 +1,21 @@
 -- Which values an entry may stand for: kinds, apart from what an entry weighs. There are n objects, of the classes cls.
 use mathlib.Core.Path.{_≡_, refl, _∙_}
-use mathlib.Core.Bool.{Bool, true, false, cond, false≢true, true≢false}
+use mathlib.Core.Bool.{Bool, true, false, cond, _||_, false≢true, true≢false}
 use mathlib.Core.List.{List}
 use Prim.Native.Nat.{ℕ, _≤_, _<_}
 use lib.ListN.{getD}
 use native.Mathlib.Omega.{arith}
 use lib.Dec.{eqb}
 use borrow.Author.Tests.{eqb-true, eq-eqb, lt-ltb}
-use Rattle.entries.specs.Entries.{Entry, Int, Top, Ref, Nullable, Blank, Malformed, noEnd, isInt, isReference, isType, isOf, mayBeOf, argumentEntry, matches, fieldEntry, matchesField}
+use Rattle.entries.specs.Entries.{Entry, Int, Top, Ref, Nullable, Blank, Malformed, noEnd, isInt, isReference, isNullable, isType, isOf, mayBeOf, argumentEntry, matches, fieldEntry, matchesField}
 use Rattle.entries.specs.Entries as entries
 use Rattle.entries.specs.Fits.{takes}
 use Rattle.values.specs.declared.Slot.{Slot}
 use Rattle.values.specs.declared.Value.{Value}
 use Rattle.values.specs.declared.Value.the-variants.{Int as num, Ref as obj, Null as null}
-use Rattle.values.specs.Values.{isIntValue, isNullValue, isRefValue, objectOfValue, refersValue, incValue}
-use Rattle.machine.specs.Faults.{isObject}
+use Rattle.values.specs.Values.{isIntValue, isNullValue, isNull, isRefValue, objectOfValue, refersValue, incValue}
+use Rattle.values.specs.Values as values
+use Rattle.machine.specs.Faults.{isObject, isOwner, isFieldValue}
 
 -- `Blank` is a place that is not in use: any value may be left there
 abbrev pub Matches : ℕ → (ℕ → ℕ) → Entry → Value → Type 0
@@ -35,6 +36,14 @@ Matches n cls Malformed v = Unit
 
 pub nope : {A : Type 0} → false ≡ true → A
 nope e = absurd (false≢true e)
+
+pub field-type : (d : ℕ) → isType (fieldEntry d) ≡ true
+unfolding fieldEntry
+field-type d = go (eqb d 255)
+  where
+    go : (b : Bool) → isType (cond b Int (Nullable d)) ≡ true
+    go true = refl
+    go false = refl
 
 module _ (n : ℕ) (cls : ℕ → ℕ) where
   -- ---- from one entry to another
@@ -160,6 +169,27 @@ module _ (n : ℕ) (cls : ℕ → ℕ) where
   not-null c (obj r) h m = m
   not-null c null h m = absurd (true≢false h)
 
+  -- a reference, null or not, holds no integer; and null only where it may be
+  pub no-int : (e : Entry) (v : Value) → (isReference e || isNullable e) ≡ true → Matches n cls e v → isIntValue v ≡ false
+  no-int e (obj r) h m = refl
+  no-int e null h m = refl
+  no-int Int (num z) h m = nope h
+  no-int Top (num z) h m = nope h
+  no-int (Ref c d e) (num z) h m = absurd m
+  no-int (Nullable c) (num z) h m = absurd m
+  no-int Blank (num z) h m = nope h
+  no-int Malformed (num z) h m = nope h
+
+  pub null-entry : (e : Entry) (v : Value) → (isReference e || isNullable e) ≡ true → Matches n cls e v → isNullValue v ≡ true → isNullable e ≡ true
+  null-entry e (num z) h m q = nope q
+  null-entry e (obj r) h m q = nope q
+  null-entry Int null h m q = nope h
+  null-entry Top null h m q = nope h
+  null-entry (Ref c d e) null h m q = absurd m
+  null-entry (Nullable c) null h m q = refl
+  null-entry Blank null h m q = nope h
+  null-entry Malformed null h m q = nope h
+
   -- an argument that matches its descriptor is what the started class's row 1 takes it for
   pub argument-kind : (d : ℕ) (e : Entry) (v : Value) → matches d e ≡ true → Matches n cls e v → Matches n cls (argumentEntry d) v
   unfolding matches argumentEntry
@@ -189,8 +219,24 @@ module _ (n : ℕ) (cls : ℕ → ℕ) where
   type-refers Blank (obj r) h m = nope h
   type-refers Malformed (obj r) h m = nope h
 
--- no fault 13
+-- ---- no fault 13
 pub object-is : (n : ℕ) (classes : List ℕ) (c : ℕ) (e : Entry) (x : Slot) → isOf c e ≡ true → Matches n (λ o. getD classes o 0) e (x .value) → isObject classes c x ≡ true
 object-is n classes c e x h m =
     let r = ref-value n (λ o. getD classes o 0) (Ref c 0 noEnd) (x .value) refl (of-value n (λ o. getD classes o 0) c e (x .value) h m) in
     rw (r .0, eq-eqb _ _ (r .2))
+
+pub owner-is : (n : ℕ) (classes : List ℕ) (c : ℕ) (e : Entry) (x : Slot) → mayBeOf c e ≡ true → Matches n (λ o. getD classes o 0) e (x .value) → isOwner classes c x ≡ true
+unfolding isOwner
+owner-is n classes c e x h m = go (isNull x) refl
+  where
+    go : (b : Bool) → isNull x ≡ b → (b || isObject classes c x) ≡ true
+    go true q = refl
+    go false q = object-is n classes c (Ref c 0 noEnd) x (eq-eqb c c refl) (not-null n (λ o. getD classes o 0) c (x .value) q (nullable-value n (λ o. getD classes o 0) c e (x .value) h m))
+
+pub field-value-is : (n : ℕ) (classes : List ℕ) (d : ℕ) (e : Entry) (x : Slot) → matchesField d e ≡ true → Matches n (λ o. getD classes o 0) e (x .value) → isFieldValue classes d x ≡ true
+unfolding matchesField isFieldValue
+field-value-is n classes d e x h m = go (eqb d 255) h
+  where
+    go : (b : Bool) → cond b (isInt e) (mayBeOf d e) ≡ true → cond b (values.isInt x) (isOwner classes d x) ≡ true
+    go true h = int-value n (λ o. getD classes o 0) e (x .value) h m
+    go false h = owner-is n classes d e x h m

@@ -4,6 +4,7 @@ pub mod Weights
 pub mod Balance
 pub mod Slots
 pub mod Values
+pub mod FieldPlaces
 pub mod Accepted
 pub mod Stands
 pub mod Invariant
@@ -11,10 +12,11 @@ pub mod Moves
 pub mod Goes
 pub mod Fresh
 pub mod Stack
-pub mod Locks
 pub mod Ends
+pub mod Locks
 pub mod Makes
 pub mod Starts
+pub mod Fields
 pub mod Verified
 pub mod Steps
 pub mod Demand3

@@ -3,20 +3,27 @@ use Prim.Native.Nat.{ℕ, _+_, _*_, _≤_, _<_}
 use mathlib.Core.Path.{_≡_, refl, _∙_}
 use mathlib.Core.Logic.{_≢_, _⊎_, inl, inr}
 use mathlib.Core.Bool.{Bool, true, false, cond}
+use mathlib.Core.List.{List}
 use native.Mathlib.Omega.{arith}
 use native.Mathlib.Decide.{ℕ-discrete, decLt}
 use lib.ListN.{getD, set, length-set}
 use lib.Seq.{getD-set-same, getD-set-other}
 use borrow.Author.Tests.{lt-ltb}
 use Rattle.ground.proofs.Bools.{never}
+use Rattle.entries.specs.Entries.{fieldEntry}
 use Rattle.rows.specs.Typed.{Typed}
+use Rattle.values.specs.declared.Slot.{Slot}
 use Rattle.threads.specs.declared.Thread.{Thread}
 use Rattle.threads.specs.Threads.{idle}
 use Rattle.state.specs.declared.State.{State}
-use Rattle.state.specs.State.{threadAt, countOf, classOf, withThread, withCount, withObject}
+use Rattle.state.specs.State.{threadAt, countOf, classOf, fieldOf, withThread, withCount, withField, fieldsWith, withObject}
 use Rattle.machine.specs.declared.Stepped.{Stepped}
 use Rattle.machine.specs.Answers.{refused}
+use Rattle.machine.specs.Moves.{firstFields}
 use Rattle.machine.proofs.Changes.{grown}
+use Rattle.soundness.proofs.Kind.{Matches, more-kind}
+use Rattle.soundness.proofs.FieldPlaces.{written, fields-length, fields-written, made-kind}
+use Rattle.soundness.proofs.Accepted.{Accepted}
 use Rattle.soundness.proofs.Balance.{balanced-more}
 use Rattle.soundness.proofs.Values.{valueOf}
 use Rattle.soundness.proofs.Invariant.{entryAt, Live, Asleep, Standing, Whole, StandingAt, Inv}
@@ -62,11 +69,13 @@ module _ (P : Typed) where
             threads-8 = length-set (s .threads) i u ∙ h .whole .threads-8;
             counts-256 = h .whole .counts-256;
             classes-32 = h .whole .classes-32;
+            fields-128 = h .whole .fields-128;
             objects-32 = h .whole .objects-32;
             some-object = h .whole .some-object;
             first-class = h .whole .first-class;
             object-class = h .whole .object-class;
             one-holder = h .whole .one-holder;
+            field-holds = h .whole .field-holds;
           };
           thread = λ j l. go j l (ℕ-discrete j i);
         }
@@ -90,11 +99,13 @@ module _ (P : Typed) where
             threads-8 = h .whole .threads-8;
             counts-256 = length-set (s .counts) (i * 32 + o) n ∙ h .whole .counts-256;
             classes-32 = h .whole .classes-32;
+            fields-128 = h .whole .fields-128;
             objects-32 = h .whole .objects-32;
             some-object = h .whole .some-object;
             first-class = h .whole .first-class;
             object-class = h .whole .object-class;
             one-holder = λ j k p lj lk lp x z. sole j k p lj lk lp x z (ℕ-discrete p o) (ℕ-discrete j i) (ℕ-discrete k i);
+            field-holds = h .whole .field-holds;
           };
           thread = λ j l n′. standing-more (s .objects) (classOf s) (countOf (s .counts) j) (s .objects) (classOf s) _ (threadAt s j) (omega arith) (λ r _. refl)
               (λ p lp. count-other j o p n lo lp (λ q. absurd (n′ q))) (h .thread j l n′);
@@ -117,31 +128,87 @@ module _ (P : Typed) where
         sole j k p lj lk lp x z (yes d) (no e) (no g) =
             count-other k o p n lo lp (λ q. absurd (g q)) ∙ h .whole .one-holder j k p lj lk lp x (rw (count-other j o p n lo lp (λ q. absurd (e q))) at z)
 
-    -- one object more
-    pub object-grows : (c : ℕ) → c < P .program .classes → s .objects < 32 → Others P (grown s c) i
-    object-grows c lc lo =
+    -- one object more, its fields as new writes them
+    pub object-grows : Accepted P → (c : ℕ) → c < P .program .classes → s .objects < 32 → Others P (grown s c (firstFields (P .program .method c))) i
+    object-grows A c lc lo =
         record {
           whole = record {
             threads-8 = h .whole .threads-8;
             counts-256 = h .whole .counts-256;
             classes-32 = length-set (s .classes) (s .objects) c ∙ h .whole .classes-32;
+            fields-128 = fields-length (s .fields) (s .objects) first ∙ h .whole .fields-128;
             objects-32 = omega arith;
             some-object = omega arith;
-            first-class = getD-set-other (s .classes) (s .objects) 0 c 0 (λ q. omega (arith, h .whole .some-object)) ∙ h .whole .first-class;
+            first-class = older 0 (h .whole .some-object) ∙ h .whole .first-class;
             object-class = λ o l. class o l (ℕ-discrete o (s .objects));
             one-holder = h .whole .one-holder;
+            field-holds = field;
           };
-          thread = λ j l n. standing-more (s .objects) (classOf s) (countOf (s .counts) j) (s .objects + 1) (classOf (grown s c)) (countOf (s .counts) j) (threadAt s j) (omega arith)
-              (λ r k. getD-set-other (s .classes) (s .objects) r c 0 (omega arith)) (λ o _. refl) (h .thread j l n);
+          thread = λ j l n. standing-more (s .objects) (classOf s) (countOf (s .counts) j) (s .objects + 1) (classOf (grown s c first)) (countOf (s .counts) j) (threadAt s j) (omega arith)
+              older (λ o _. refl) (h .thread j l n);
         }
       where
-        class : (o : ℕ) → o < s .objects + 1 → Dec (o ≡ s .objects) → classOf (grown s c) o < P .program .classes
-        class o l (yes q) = rw (q, getD-set-same (s .classes) (s .objects) c 0 (omega (arith, h .whole .classes-32))) lc
-        class o l (no q) = rw (getD-set-other (s .classes) (s .objects) o c 0 q) (h .whole .object-class o (omega arith))
+        first : List Slot
+        first = firstFields (P .program .method c)
 
-pub grown-is : (s : State) (c : ℕ) → s .objects < 32 → withObject s c ≡ grown s c
+        older : (o : ℕ) → o < s .objects → classOf (grown s c first) o ≡ classOf s o
+        older o l = getD-set-other (s .classes) (s .objects) o c 0 (omega arith)
+
+        newest : classOf (grown s c first) (s .objects) ≡ c
+        newest = getD-set-same (s .classes) (s .objects) c 0 (omega (arith, h .whole .classes-32))
+
+        class : (o : ℕ) → o < s .objects + 1 → Dec (o ≡ s .objects) → classOf (grown s c first) o < P .program .classes
+        class o l (yes q) = rw (q, newest) lc
+        class o l (no q) = rw (older o (omega arith)) (h .whole .object-class o (omega arith))
+
+        few : (o f : ℕ) → o < s .objects + 1 → f < P .program .method (classOf (grown s c first) o) .fields → f < 4
+        few o f l k = omega (arith, A .formed .fields-4 (classOf (grown s c first) o) (class o l (ℕ-discrete o (s .objects))))
+
+        field : (o f : ℕ) → o < s .objects + 1 → f < P .program .method (classOf (grown s c first) o) .fields
+            → Matches (s .objects + 1) (classOf (grown s c first)) (fieldEntry (P .program .method (classOf (grown s c first) o) .field f)) (fieldOf (fieldsWith (s .fields) (s .objects) first) o f .value)
+        field o f l k =
+            fields-written (s .fields) (s .objects) first
+            (λ (x : Slot). Matches (s .objects + 1) (classOf (grown s c first)) (fieldEntry (P .program .method (classOf (grown s c first) o) .field f)) (x .value))
+            o f (omega (arith, h .whole .fields-128)) (few o f l k)
+            (λ q. rw (q, newest) (made-kind (s .objects + 1) (classOf (grown s c first)) (P .program .method c) f (A .formed .fields-4 c lc) (rw (q, newest) at k)))
+            (λ q. let lo : o < s .objects = omega arith in rw (older o lo)
+            (more-kind (s .objects) (classOf s) (s .objects + 1) (classOf (grown s c first)) (omega arith) older
+            (fieldEntry (P .program .method (classOf s o) .field f)) (fieldOf (s .fields) o f .value) (h .whole .field-holds o f lo (rw (older o lo) at k))))
+
+    -- field f of object o becomes x
+    pub field-moves : Accepted P → (o f : ℕ) (x : Slot) → o < s .objects → f < P .program .method (classOf s o) .fields
+        → Matches (s .objects) (classOf s) (fieldEntry (P .program .method (classOf s o) .field f)) (x .value) → Others P (withField s o f x) i
+    field-moves A o f x lo lf m =
+        record {
+          whole = record {
+            threads-8 = h .whole .threads-8;
+            counts-256 = h .whole .counts-256;
+            classes-32 = h .whole .classes-32;
+            fields-128 = length-set (s .fields) (o * 4 + f) x ∙ h .whole .fields-128;
+            objects-32 = h .whole .objects-32;
+            some-object = h .whole .some-object;
+            first-class = h .whole .first-class;
+            object-class = h .whole .object-class;
+            one-holder = h .whole .one-holder;
+            field-holds = field;
+          };
+          thread = h .thread;
+        }
+      where
+        few : (p g : ℕ) → p < s .objects → g < P .program .method (classOf s p) .fields → g < 4
+        few p g lp lg = omega (arith, A .formed .fields-4 (classOf s p) (h .whole .object-class p lp))
+
+        field : (p g : ℕ) → p < s .objects → g < P .program .method (classOf s p) .fields
+            → Matches (s .objects) (classOf s) (fieldEntry (P .program .method (classOf s p) .field g)) (fieldOf (set (s .fields) (o * 4 + f) x) p g .value)
+        field p g lp lg =
+            written (λ (y : Slot). Matches (s .objects) (classOf s) (fieldEntry (P .program .method (classOf s p) .field g)) (y .value))
+            (s .fields) (o * 4 + f) (p * 4 + g) x (omega (arith, few o f lo lf, h .whole .objects-32, h .whole .fields-128))
+            (λ q. let e : p ≡ o = omega (arith, few o f lo lf, few p g lp lg) in let d : g ≡ f = omega arith in rw (e, d) m)
+            (λ _. h .whole .field-holds p g lp lg)
+
+pub grown-is : (s : State) (c : ℕ) (first : List Slot) → s .objects < 32 → withObject s c first ≡ grown s c first
 unfolding withObject
-grown-is s c l = rw (lt-ltb (s .objects) 32 l)
+grown-is s c first l = rw (lt-ltb (s .objects) 32 l)
 
 -- ---- a good step of thread i from s: no fault, the invariant after it, and nothing held by a thread that ends
 pub record Good (P : Typed) (s : State) (i : ℕ) (r : Stepped) : Type 0 where
@@ -176,7 +243,8 @@ pub record Fine (P : Typed) (s : State) (i fault wait : ℕ) (move : Stepped) : 
   pub no-fault : fault ≡ 0
   pub good : wait ≡ 0 → Good P s i move
 
-pub branches : (P : Typed) (s : State) (i : ℕ) (b : Bool) (f g : ℕ) (x y : Stepped)
-    → (b ≡ true → Fine P s i f 0 x) → (b ≡ false → Fine P s i g 0 y) → Fine P s i (cond b f g) 0 (cond b x y)
-branches P s i true f g x y p q = p refl
-branches P s i false f g x y p q = q refl
+-- .. by cases, each of which may wait
+pub branches : (P : Typed) (s : State) (i : ℕ) (b : Bool) (f g : ℕ) (w : Bool → ℕ) (x y : Stepped)
+    → (b ≡ true → Fine P s i f (w true) x) → (b ≡ false → Fine P s i g (w false) y) → Fine P s i (cond b f g) (w b) (cond b x y)
+branches P s i true f g w x y p q = p refl
+branches P s i false f g w x y p q = q refl

@@ -28,11 +28,11 @@ use Rattle.machine.specs.Faults.{topFault, intFault, pushFault}
 use Rattle.machine.specs.Moves.{wentTo, wentOn, incMove, popMove, push0Move, loadMove, storeMove, ifMove}
 use Rattle.machine.proofs.Refusals.{either}
 use Rattle.soundness.proofs.Held.{Fits, held}
-use Rattle.soundness.proofs.Kind.{int-value}
+use Rattle.soundness.proofs.Kind.{int-value, int-inc}
 use Rattle.soundness.proofs.Weights.{goes-end, int-goes, plain-pair}
 use Rattle.soundness.proofs.Values.{pushed-is}
 use Rattle.soundness.proofs.Accepted.{Accepted}
-use Rattle.soundness.proofs.Stands.{Stands, variable-kind, entry-kind, pop-stands, push-stands, inc-stands, store-stands, split-stands, fits-split, fits-plain}
+use Rattle.soundness.proofs.Stands.{Stands, variable-kind, entry-kind, pop-stands, push-stands, top-stands, store-stands, split-stands, fits-split, fits-plain}
 use Rattle.soundness.proofs.Invariant.{Inv}
 use Rattle.soundness.proofs.Moves.{Good, Fine}
 use Rattle.soundness.proofs.Goes.{v16, d16, at-here, has-room, goes-to}
@@ -88,7 +88,8 @@ module _ (P : Typed) (A : Accepted P) (s : State) (inv : Inv P s) (i : ℕ) (li 
       let it : isInt (here .stack 0) ≡ true = and-snd (leb 1 (here .depth)) (isInt (here .stack 0)) (r .0) in
       record {
         no-fault = has-int en it;
-        good = λ _. goes-to P A s inv i li lv (topped T (incSlot (topOf T))) _ (T .at .0 + 1) ad lv refl (inc-stands vars w16 (s .objects) cls cnt here T e16 st en it) (r .1 .0);
+        good = λ _. goes-to P A s inv i li lv (topped T (incSlot (topOf T))) _ (T .at .0 + 1) ad lv refl
+            (top-stands vars w16 (s .objects) cls cnt here T e16 st (incSlot (topOf T)) Int en (int-goes (here .stack 0) it) refl refl (int-inc (s .objects) cls (here .stack 0) (topOf T .value) it)) (r .1 .0);
       }
 
   -- the top goes

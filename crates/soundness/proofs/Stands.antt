@@ -11,7 +11,7 @@ use borrow.Author.Tests.{eqb-true, eqb-false, eq-eqb, ne-eqb}
 use Rattle.ground.specs.Bounded.{fillFrom}
 use Rattle.ground.proofs.Bools.{and-fst, and-snd}
 use Rattle.ground.proofs.Writes.{fill-length}
-use Rattle.entries.specs.Entries.{Entry, Int, Blank, noEnd, dipOf, endOf, isInt, isReference}
+use Rattle.entries.specs.Entries.{Entry, Blank, noEnd, dipOf, endOf, isReference}
 use Rattle.entries.specs.Fits.{Want, takes, want, wantEntered, wantExited, wantBoth}
 use Rattle.entries.proofs.Types.{fits-itself}
 use Rattle.rows.specs.Rows.{Row}
@@ -19,13 +19,12 @@ use Rattle.matching.specs.Matching.{wants, wantsAt, wantsLoaded, edge}
 use Rattle.matching.specs.Matching as rows
 use Rattle.values.specs.declared.Slot.{Slot}
 use Rattle.values.specs.declared.Value.{Value}
-use Rattle.values.specs.Values.{zeroSlot, incSlot, objectOf}
-use Rattle.values.specs.Values as values
+use Rattle.values.specs.Values.{zeroSlot, isRef, objectOf}
 use Rattle.threads.specs.declared.Thread.{Thread}
 use Rattle.threads.specs.Threads.{fromTop, topOf, varOf, topped, pushed, popped, stored}
 use Rattle.soundness.proofs.Held.{Meets, Fits, compared}
-use Rattle.soundness.proofs.Kind.{Matches, takes-kind, int-inc, ref-value}
-use Rattle.soundness.proofs.Weights.{names, same-weaker, int-goes, kept-slot, gone-slot, fresh-slot, light-slot}
+use Rattle.soundness.proofs.Kind.{Matches, takes-kind, ref-value}
+use Rattle.soundness.proofs.Weights.{names, same-weaker, kept-slot, gone-slot, fresh-slot, light-slot}
 use Rattle.soundness.proofs.Weights as weights
 use Rattle.soundness.proofs.Balance.{Balanced, keep-all, keep-move, keep-split, keep-enter, keep-exit, dip-held}
 use Rattle.soundness.proofs.Slots.{slotOf, slot-var, slot-stack, slot-nostack, slot-popped, slot-pushed, slot-pushed-other, slot-stored, slot-stored-other, fits-weaker}
@@ -177,32 +176,49 @@ module _ (vars : ℕ) (v16 : vars ≤ 16) (n : ℕ) (cls k : ℕ → ℕ) (x : R
           (rw (top, bottom) (same-weaker (x .stack 0)))
           (h .balanced)
 
-  -- ---- inc: the top changes in place
-  pub inc-stands : 1 ≤ x .depth → isInt (x .stack 0) ≡ true → Stands vars n cls k (rows.pushed Int (rows.popped 1 x)) (topped t (incSlot (topOf t)))
+  -- ---- inc and getfield: the top, which may go, becomes u, as the entry e, which weighs nothing
+  pub top-stands : (u : Slot) (e : Entry) → 1 ≤ x .depth → noEnd ≤ endOf (x .stack 0) → dipOf e ≡ 0 → endOf e ≡ noEnd
+      → (Matches n cls (x .stack 0) (topOf t .value) → Matches n cls e (u .value)) → Stands vars n cls k (rows.pushed e (rows.popped 1 x)) (topped t u)
   unfolding topped
-  inc-stands en i =
+  top-stands u e en g ed ee m =
       record {
-        sized = record { vars = h .sized .vars; stack = length-set (t .stack) (t .depth - 1) (incSlot (topOf t)) ∙ h .sized .stack };
+        sized = record { vars = h .sized .vars; stack = length-set (t .stack) (t .depth - 1) u ∙ h .sized .stack };
         depth-exact = omega (arith, h .depth-exact);
-        balanced = keep-all n cls (slotOf vars x) (valueOf t) k (slotOf vars (rows.pushed Int (rows.popped 1 x))) _ (λ s l. each s l (ℕ-discrete s (15 + t .depth)) (decLt s (15 + t .depth))) (h .balanced);
+        balanced = keep-all n cls (slotOf vars x) (valueOf t) k (slotOf vars (rows.pushed e (rows.popped 1 x))) _ (λ s l. each s l (ℕ-discrete s (15 + t .depth)) (decLt s (15 + t .depth))) (h .balanced);
       }
     where
       each : (s : ℕ) → s < 32 → Dec (s ≡ 15 + t .depth) → Dec (s < 15 + t .depth)
-          → weights.Slot n cls (slotOf vars x s) (valueOf t s) (slotOf vars (rows.pushed Int (rows.popped 1 x)) s) (valueIn (t .vars) (set (t .stack) (t .depth - 1) (incSlot (topOf t))) s)
+          → weights.Slot n cls (slotOf vars x s) (valueOf t s) (slotOf vars (rows.pushed e (rows.popped 1 x)) s) (valueIn (t .vars) (set (t .stack) (t .depth - 1) u) s)
       each s l (yes q) d =
           rw (
             slot-stack vars v16 x s 0 (omega (arith, h .depth-exact)) (omega (arith, h .depth-exact)),
-            slot-pushed vars v16 (rows.popped 1 x) Int s (omega (arith, h .depth-exact)),
-            value-set (t .vars) (t .stack) (t .depth - 1) s (incSlot (topOf t)) (omega (arith, h .sized .stack, h .depth-exact)) (omega (arith, h .depth-exact)),
+            slot-pushed vars v16 (rows.popped 1 x) e s (omega (arith, h .depth-exact)),
+            value-set (t .vars) (t .stack) (t .depth - 1) s u (omega (arith, h .sized .stack, h .depth-exact)) (omega (arith, h .depth-exact)),
             value-entry t s 0 (omega (arith, h .depth-exact)) (omega arith),
           )
-          (light-slot n cls (x .stack 0) Int (topOf t .value) _ (int-goes (x .stack 0) i) refl (omega arith) (int-inc n cls (x .stack 0) (topOf t .value) i))
+          (light-slot n cls (x .stack 0) e (topOf t .value) (u .value) g ed (omega arith) m)
       each s l (no q) (yes d) =
-          same-slot n cls _ _ _ _ (value-set-other (t .vars) (t .stack) (t .depth - 1) s (incSlot (topOf t)) (λ e. q (omega (arith, h .depth-exact))))
-          (slot-pushed-other vars v16 (rows.popped 1 x) Int s (λ e. q (omega (arith, h .depth-exact))) ∙ slot-popped vars v16 x 1 s en (omega (arith, h .depth-exact)))
+          same-slot n cls _ _ _ _ (value-set-other (t .vars) (t .stack) (t .depth - 1) s u (λ p. q (omega (arith, h .depth-exact))))
+          (slot-pushed-other vars v16 (rows.popped 1 x) e s (λ p. q (omega (arith, h .depth-exact))) ∙ slot-popped vars v16 x 1 s en (omega (arith, h .depth-exact)))
       each s l (no q) (no d) =
-          same-slot n cls _ _ _ _ (value-set-other (t .vars) (t .stack) (t .depth - 1) s (incSlot (topOf t)) (λ e. q (omega (arith, h .depth-exact))))
-          (slot-nostack vars v16 (rows.pushed Int (rows.popped 1 x)) s (omega (arith, h .depth-exact)) ∙ sym (slot-nostack vars v16 x s (omega (arith, h .depth-exact))))
+          same-slot n cls _ _ _ _ (value-set-other (t .vars) (t .stack) (t .depth - 1) s u (λ p. q (omega (arith, h .depth-exact))))
+          (slot-nostack vars v16 (rows.pushed e (rows.popped 1 x)) s (omega (arith, h .depth-exact)) ∙ sym (slot-nostack vars v16 x s (omega (arith, h .depth-exact))))
+
+  -- ---- monitorenter on what may be null, and isn't: the variable v, which may go, counts as the entry e, which weighs nothing
+  pub as-stands : (v : ℕ) (e : Entry) → v < vars → noEnd ≤ endOf (x .variable v) → dipOf e ≡ 0 → endOf e ≡ noEnd
+      → (Matches n cls (x .variable v) (varOf t v .value) → Matches n cls e (varOf t v .value)) → Stands vars n cls k (rows.stored v e x) t
+  as-stands v e lv g ed ee m =
+      record {
+        sized = h .sized;
+        depth-exact = h .depth-exact;
+        balanced = keep-all n cls (slotOf vars x) (valueOf t) k (slotOf vars (rows.stored v e x)) (valueOf t) (λ s l. each s (ℕ-discrete s v)) (h .balanced);
+      }
+    where
+      each : (s : ℕ) → Dec (s ≡ v) → weights.Slot n cls (slotOf vars x s) (valueOf t s) (slotOf vars (rows.stored v e x) s) (valueOf t s)
+      each s (yes q) =
+          rw (q, slot-var vars v16 x v lv, slot-stored vars v16 x v e lv, value-var t v (omega arith))
+          (light-slot n cls (x .variable v) e (varOf t v .value) (varOf t v .value) g ed (omega arith) m)
+      each s (no q) = same-slot n cls _ _ _ _ refl (slot-stored-other vars v16 x v e s q)
 
   -- ---- store: the top moves to the variable v
   pub store-stands : (v : ℕ) → v < vars → 1 ≤ x .depth → noEnd ≤ endOf (x .variable v)
@@ -275,12 +291,12 @@ module _ (vars : ℕ) (v16 : vars ≤ 16) (n : ℕ) (cls k : ℕ → ℕ) (x : R
 
   -- ---- the variable v is a reference
   module _ (v : ℕ) (lv : v < vars) (ref : isReference (x .variable v) ≡ true) where
-    value : (values.isInt (varOf t v) ≡ false) × (objectOf (varOf t v) < n) × ((o : ℕ) → names o (valueOf t v) ≡ eqb (objectOf (varOf t v)) o)
+    value : (isRef (varOf t v) ≡ true) × (objectOf (varOf t v) < n) × ((o : ℕ) → names o (valueOf t v) ≡ eqb (objectOf (varOf t v)) o)
     value =
         let r = ref-value n cls (x .variable v) (varOf t v .value) ref (variable-kind v lv) in
         (r .0, r .1, λ o. ap (names o) (value-var t v (omega arith)) ∙ ap (names o) (r .3))
 
-    pub is-object : values.isInt (varOf t v) ≡ false
+    pub is-object : isRef (varOf t v) ≡ true
     is-object = value .0
 
     pub object-known : objectOf (varOf t v) < n

@@ -14,7 +14,7 @@ use Rattle.ground.proofs.Bounded.{all-elim}
 use Rattle.bundle.specs.Container.{classAt}
 use Rattle.bundle.specs.Program.{programOf}
 use Rattle.structure.proofs.Structured.{WellFormed, well-formed}
-use Rattle.entries.specs.Entries.{Entry, Int, Top, Ref, Blank, Malformed, minEnd, zeros, pairOk, entryOf, endOf, isTop, isType, argumentEntry}
+use Rattle.entries.specs.Entries.{Entry, Int, Top, Ref, Nullable, Blank, Malformed, minEnd, zeros, pairOk, nullableOk, entryOf, endOf, isTop, isType, argumentEntry}
 use Rattle.entries.specs.Fits.{entryFits}
 use Rattle.rows.specs.Rows.{Row, entryAt, variableAt, stackAt}
 use Rattle.rows.specs.Typed.{typedOf}
@@ -40,7 +40,8 @@ entry-end n kind c d e =
     either (eqb kind 0) _ _ (either (zeros c d e) Blank Malformed (omega arith) (omega arith))
     (either (eqb kind 1) _ _ (either (zeros c d e) Int Malformed (omega arith) (omega arith))
     (either (eqb kind 2) _ _ (either (zeros c d e) Top Malformed (omega arith) (omega arith))
-    (either (eqb kind 3) _ _ (pair (pairOk n c d e) (λ h. low n c d e h)) (omega arith))))
+    (either (eqb kind 3) _ _ (pair (pairOk n c d e) (λ h. low n c d e h))
+    (either (eqb kind 4) _ _ (either (nullableOk n c d e) (Nullable c) Malformed (omega arith) (omega arith)) (omega arith)))))
   where
     pair : (b : Bool) → (b ≡ true → 1 ≤ e) → 1 ≤ endOf (cond b (Ref c d e) Malformed)
     pair true p = p refl
@@ -54,6 +55,7 @@ is-top : (e : Entry) → isTop e ≡ true → e ≡ Top
 is-top Int h = nope h
 is-top Top h = refl
 is-top (Ref c d e) h = nope h
+is-top (Nullable c) h = nope h
 is-top Blank h = nope h
 is-top Malformed h = nope h
 

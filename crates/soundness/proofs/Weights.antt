@@ -7,10 +7,10 @@ use native.Mathlib.Omega.{arith}
 use lib.Dec.{eqb}
 use borrow.Author.Tests.{leb-true, ne-eqb}
 use Rattle.ground.proofs.Bools.{and-snd, never}
-use Rattle.entries.specs.Entries.{Entry, Int, Top, Ref, Blank, Malformed, noEnd, dipOf, endOf, isInt, isReference, isType}
+use Rattle.entries.specs.Entries.{Entry, Int, Top, Ref, Nullable, Blank, Malformed, noEnd, dipOf, endOf, isInt, isReference, isNullable, isType}
 use Rattle.entries.specs.Fits.{mayGo, want}
 use Rattle.values.specs.declared.Value.{Value}
-use Rattle.values.specs.declared.Value.the-variants.{Int as num, Ref as obj}
+use Rattle.values.specs.declared.Value.the-variants.{Int as num, Ref as obj, Null as null}
 use Rattle.soundness.proofs.Kind.{Matches, nope, takes-kind}
 use Rattle.soundness.proofs.Held.{Meets}
 
@@ -18,6 +18,7 @@ use Rattle.soundness.proofs.Held.{Meets}
 abbrev pub names : ℕ → Value → Bool
 names o (num z) = false
 names o (obj r) = eqb r o
+names o null = false
 
 -- what an entry with the value v weighs on the object o; ends keep their 64
 abbrev pub dip : ℕ → Entry → Value → ℕ
@@ -59,6 +60,7 @@ pub plain-pair : (e : Entry) → isReference e ≡ false → (dipOf e ≡ 0) × 
 plain-pair Int h = (refl, refl)
 plain-pair Top h = (refl, refl)
 plain-pair (Ref c d e) h = never refl h
+plain-pair (Nullable c) h = (refl, refl)
 plain-pair Blank h = (refl, refl)
 plain-pair Malformed h = (refl, refl)
 
@@ -66,8 +68,17 @@ pub int-goes : (e : Entry) → isInt e ≡ true → noEnd ≤ endOf e
 int-goes Int h = omega arith
 int-goes Top h = nope h
 int-goes (Ref c d e) h = nope h
+int-goes (Nullable c) h = nope h
 int-goes Blank h = nope h
 int-goes Malformed h = nope h
+
+pub nullable-goes : (e : Entry) → isNullable e ≡ true → noEnd ≤ endOf e
+nullable-goes Int h = nope h
+nullable-goes Top h = nope h
+nullable-goes (Ref c d e) h = nope h
+nullable-goes (Nullable c) h = omega arith
+nullable-goes Blank h = nope h
+nullable-goes Malformed h = nope h
 
 -- an object that is not there weighs nothing
 pub far-end : (n : ℕ) (cls : ℕ → ℕ) (o : ℕ) (e : Entry) (v : Value) → n ≤ o → Matches n cls e v → noEnd ≤ end o e v
@@ -75,6 +86,8 @@ far-end n cls o Int v h m = cond-top (names o v) noEnd noEnd (omega arith)
 far-end n cls o Top v h m = cond-top (names o v) noEnd noEnd (omega arith)
 far-end n cls o (Ref c d e) (num z) h m = omega arith
 far-end n cls o (Ref c d e) (obj r) h m = rw (ne-eqb r o (λ q. omega (arith, q, m .0))) (omega arith)
+far-end n cls o (Ref c d e) null h m = omega arith
+far-end n cls o (Nullable c) v h m = cond-top (names o v) noEnd noEnd (omega arith)
 far-end n cls o Blank v h m = cond-top (names o v) noEnd noEnd (omega arith)
 far-end n cls o Malformed v h m = cond-top (names o v) noEnd noEnd (omega arith)
 

@@ -1,4 +1,4 @@
--- Demand 3: what heldBy for an accepted bundle, a fresh machine and any list of steps, each a thread and whether an allocation fails.
+-- Demand 3: what holds for an accepted bundle, a fresh machine and any list of steps, each a thread and whether an allocation fails.
 use mathlib.Core.List.{List}
 use mathlib.Core.Path.{_≡_}
 use mathlib.Core.Logic.{_⊎_, _≢_}
@@ -28,7 +28,7 @@ pub record Safe (b : List ℕ) (s : State) : Type 0 where
   -- no thread leaves a lock it does not hold
   pub leaves-held : (t : ℕ) (v : Var) → t < 8 → threadAt s t .live ≡ true → next b s t ≡ Exit v
       → 0 < heldBy s t (objectOf (varOf (threadAt s t) (v .0)))
-  -- a thread that isn't live heldBy nothing
+  -- a thread that isn't live holds nothing
   pub idle-free : (t o : ℕ) → t < 8 → o < 32 → threadAt s t .live ≡ false → heldBy s t o ≡ 0
   -- no object is held by two threads
   pub one-holder : (t u o : ℕ) → t < 8 → u < 8 → o < 32 → t ≢ u → 0 < heldBy s t o → heldBy s u o ≡ 0
@@ -39,7 +39,7 @@ pub record Safe (b : List ℕ) (s : State) : Type 0 where
 pub record Sound (s : State) (t n : ℕ) (u : State) : Type 0 where
   -- no step is a fault, nor 17 or 18
   pub no-fault : n ≤ 5
-  -- a thread that ends, by return or uncaught exception, held nothing and heldBy nothing then
+  -- a thread that ends, by return or uncaught exception, held nothing and holds nothing then
   pub ends-free : (n ≡ 1) ⊎ (n ≡ 2) → (o : ℕ) → o < 32 → (heldBy s t o ≡ 0) × (heldBy u t o ≡ 0)
 
 -- DEMAND 3: for an accepted bundle, a fresh machine and any list of steps, the state that is reached is safe, and one more step is sound
