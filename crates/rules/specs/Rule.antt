@@ -1,4 +1,4 @@
--- A rule as it is written: what it asks, and its edges. From that one writing come "the rule ruleHolds" and its why (document 02, Q-1).
+-- A rule as it is written: what it asks, and its edges. From that one writing come "the rule holds" and its why (document 02, Q-1).
 use mathlib.Core.List.{List, [], _∷_}
 use mathlib.Core.Bool.{Bool, true, false, cond, _&&_}
 use Prim.Native.Nat.{ℕ}
@@ -32,7 +32,7 @@ shortAlong vars (e ∷ es) = thenShort (edgeShort vars e) (shortAlong vars es)
 unfoldable pub shortOf : ℕ → Rule → ℕ
 shortOf vars r = shortAlong vars (r .edges)
 
--- the rule ruleHolds
+-- the rule holds
 unfoldable pub ruleHolds : ℕ → Rule → Bool
 ruleHolds vars r = met r && eqb (shortOf vars r) 0
 
