@@ -58,33 +58,3 @@ fn generated_bundles_print_the_reference_s_line() {
     }
     assert!(seen.iter().all(|&count| count > 0), "{seen:?}");
 }
-
-/// The script at the root on these arguments: its standard output and status.
-fn script(arguments: &[&str]) -> (String, Option<i32>) {
-    let root = Path::new(env!("CARGO_MANIFEST_DIR")).join("../..");
-    let output = Command::new("./hveitmar")
-        .args(arguments)
-        .current_dir(root)
-        .stdin(Stdio::null())
-        .output()
-        .expect("the script");
-    let text = String::from_utf8(output.stdout).expect("text");
-    (text, output.status.code())
-}
-
-#[test]
-fn files_have_a_line_each_and_the_worst_a_status() {
-    let a = "cases/a.bundle: accepted classes 1\n";
-    let b = "cases/b.bundle: refused 9 class 0 address 5 why 3\n";
-    let told: [(&[&str], String, i32); 6] = [
-        (&["cases/a.bundle"], a.into(), 0),
-        (&["cases/b.bundle"], b.into(), 1),
-        (&["cases/b.bundle", "cases/a.bundle"], format!("{b}{a}"), 1),
-        (&["cases/a.bundle", "no such file"], a.into(), 2),
-        (&["cases"], String::new(), 2),
-        (&[], "refused 1 class 0 address 0\n".into(), 1),
-    ];
-    for (arguments, text, status) in told {
-        assert_eq!(script(arguments), (text, Some(status)), "{arguments:?}");
-    }
-}

@@ -1,5 +1,6 @@
 //! What the verifier says of a bundle.
 
+use std::error::Error;
 use std::fmt::{self, Display, Formatter};
 
 /// The verdict on a bundle.
@@ -179,6 +180,8 @@ impl Display for Refusal {
     }
 }
 
+impl Error for Refusal {}
+
 impl Verdict {
     /// The document's number, 0 to 10.
     pub fn number(&self) -> u8 {
@@ -191,6 +194,23 @@ impl Verdict {
     /// Whether the number is 0.
     pub fn is_accepted(&self) -> bool {
         matches!(self, Verdict::Accepted { .. })
+    }
+
+    /// How many classes an accepted bundle has, or the refusal as an error.
+    ///
+    /// ```
+    /// fn admit(bundle: &[u8]) -> Result<(), Box<dyn std::error::Error>> {
+    ///     hveitmar::verify(bundle).into_result()?;
+    ///     Ok(())
+    /// }
+    /// let refused = admit(b"no bundle").expect_err("it has no trailer");
+    /// assert_eq!(refused.to_string(), "refused 2 class 0 address 0");
+    /// ```
+    pub fn into_result(self) -> Result<u8, Refusal> {
+        match self {
+            Verdict::Accepted { classes } => Ok(classes),
+            Verdict::Refused(refusal) => Err(refusal),
+        }
     }
 
     /// Reads the C call's number, all of it: what is no verdict of the law is

@@ -1,0 +1,97 @@
+//! What is told of one step.
+
+use hveitmar::Answer;
+use listing::{Instruction, Opcode, Program};
+use reference::state::{State, Thread, Value, OBJECTS, THROWN_BY_NEW};
+use trace::Turn;
+
+/// What each column of the table holds.
+pub const COLUMNS: [&str; 7] = [
+    "step",
+    "thread",
+    "class",
+    "address",
+    "instruction",
+    "object",
+    "answer",
+];
+
+/// A step, the state that it was taken from, and the answer.
+pub struct Step<'a> {
+    pub program: &'a Program<'a>,
+    pub state: &'a State,
+    pub turn: Turn,
+    pub answer: Answer,
+}
+
+impl Step<'_> {
+    /// The words of its line.
+    pub fn told(&self, number: usize) -> Vec<String> {
+        let fails = if self.turn.fails() { "!" } else { "" };
+        let thread = format!("{}{fails}", self.turn.thread());
+        let answer = format!("{} {}", self.answer.number(), self.answer);
+        let [class, address, instruction, object] = self.place();
+        let told = [
+            number.to_string(),
+            thread,
+            class,
+            address,
+            instruction,
+            object,
+            answer,
+        ];
+        told.to_vec()
+    }
+
+    /// Where the thread stands, its instruction and its object; dashes where
+    /// there is none.
+    fn place(&self) -> [String; 4] {
+        let none = || "-".to_string();
+        let thread = self.state.threads.get(usize::from(self.turn.thread()));
+        let Some(thread) = thread.filter(|thread| thread.live) else {
+            return [none(), none(), none(), none()];
+        };
+        let method = self.program.method(thread.class);
+        let instruction = method.instruction(thread.address);
+        let object = instruction.and_then(|instruction| self.object(thread, instruction));
+        [
+            thread.class.to_string(),
+            thread.address.to_string(),
+            instruction.map_or_else(none, |instruction| instruction.to_string()),
+            object.map_or_else(none, |object| object.to_string()),
+        ]
+    }
+
+    /// The object that the instruction works on, if there is one.
+    fn object(&self, thread: &Thread, instruction: Instruction) -> Option<u8> {
+        let operand = instruction.operand;
+        let below = |entries: usize| {
+            let place = usize::from(thread.depth).checked_sub(entries + 1)?;
+            thread.stack.get(place)
+        };
+        let value = match instruction.form.opcode {
+            Opcode::Load | Opcode::Enter | Opcode::Exit => {
+                thread.variables.get(usize::from(operand))
+            }
+            Opcode::Pop | Opcode::Store | Opcode::Throw => below(0),
+            Opcode::Start => below(self.program.method(operand).head.arguments),
+            Opcode::New => return self.allocated(),
+            Opcode::Inc | Opcode::Push0 | Opcode::If | Opcode::Return => None,
+        };
+        match value {
+            Some(&Value::Ref(object)) => Some(object),
+            _ => None,
+        }
+    }
+
+    /// The object that new makes, or throws where it fails; none where it is
+    /// refused.
+    fn allocated(&self) -> Option<u8> {
+        let fails = self.turn.fails() || usize::from(self.state.objects) >= OBJECTS;
+        match self.answer {
+            Answer::WentOn if !fails => Some(self.state.objects),
+            Answer::WentOn | Answer::Uncaught => Some(THROWN_BY_NEW),
+            _ => None,
+        }
+    }
+}

@@ -1,0 +1,39 @@
+//! The README shows what comes out.
+
+mod common;
+
+use common::{root, tool};
+
+const INDENT: &str = "    ";
+const PROMPT: &str = "    ./hveitmar ";
+
+/// The commands of the README, each with the block of text below it.
+fn examples(text: &str) -> Vec<(String, String)> {
+    let lines: Vec<&str> = text.lines().collect();
+    let starts = (0..lines.len()).filter(|&at| lines[at].starts_with(PROMPT));
+    starts
+        .map(|at| {
+            let block = lines[at + 1..].iter();
+            let shown: Vec<&str> = block
+                .take_while(|line| line.is_empty() || line.starts_with(INDENT))
+                .take_while(|line| !line.starts_with(PROMPT))
+                .map(|line| line.strip_prefix(INDENT).unwrap_or(line))
+                .collect();
+            let words = lines[at][PROMPT.len()..].to_string();
+            (words, shown.join("\n").trim().to_string())
+        })
+        .collect()
+}
+
+#[test]
+fn every_example_comes_out_as_it_stands() {
+    let text = std::fs::read_to_string(root().join("README.md")).expect("README.md");
+    let examples = examples(&text);
+    for (words, shown) in &examples {
+        let words: Vec<&str> = words.split(' ').collect();
+        assert_eq!(tool(&words, &[]).out.trim(), shown, "{words:?}");
+    }
+    for command in ["check", "show", "explain", "trace"] {
+        assert!(examples.iter().any(|(words, _)| words.starts_with(command)));
+    }
+}

@@ -1,0 +1,79 @@
+//! Verdict 7: four bytes that are no instruction which may stand there.
+
+use crate::finding::{explained, Finding};
+use crate::words::there;
+use crate::Explanation;
+use listing::{Field, Instruction, Method, Operand, Program};
+
+pub fn explain(program: &Program, class: u8, address: u16) -> Explanation {
+    let method = program.method(class);
+    let at = method.head.instruction(address);
+    let findings = match method.instruction(address) {
+        None => {
+            let opcode = method.instruction_bytes(address)[0];
+            let text = format!("No instruction has the opcode {opcode}.");
+            vec![Finding::new(at, 1, text)]
+        }
+        Some(instruction) => {
+            let last = last(&method, address, instruction);
+            let operand = operand(program, &method, instruction);
+            let field = field(&method, instruction);
+            let opcode = last.map(|text| Finding::new(at, 1, text));
+            let operand = operand.map(|text| Finding::new(at + 1, 1, text));
+            let field = field.map(|text| Finding::new(at + 2, 2, text));
+            [opcode, operand, field].into_iter().flatten().collect()
+        }
+    };
+    let rule = format!(
+        "At address {address} of class {class} must stand an instruction of the table, \
+         and at the last address an athrow or a return."
+    );
+    explained(program.bundle(), &rule, findings)
+}
+
+/// Whether the code would run past its end.
+fn last(method: &Method, address: u16, instruction: Instruction) -> Option<String> {
+    let runs_on = address == method.head.code && !instruction.form.ends_code();
+    let text = format!(
+        "Address {address} is the last, and a thread would run past it from {}.",
+        instruction.form.name
+    );
+    runs_on.then_some(text)
+}
+
+/// What is wrong with the operand.
+fn operand(program: &Program, method: &Method, instruction: Instruction) -> Option<String> {
+    let Instruction { form, operand, .. } = instruction;
+    let below = |count: usize, thing: &str| {
+        let there = there(count as i64, thing);
+        let text = format!("must be a {thing}, and {there}, counted from 0");
+        (text, usize::from(operand) < count)
+    };
+    let (wanted, right) = match form.operand {
+        Operand::Zero => ("must be 0".to_string(), operand == 0),
+        Operand::Variable => below(method.head.variables, "variable"),
+        Operand::Class => below(usize::from(program.trailer.classes), "class"),
+    };
+    let text = format!("The operand of {} is {operand}, and {wanted}.", form.name);
+    (!right).then_some(text)
+}
+
+/// What is wrong with the address field.
+fn field(method: &Method, instruction: Instruction) -> Option<String> {
+    let Instruction { form, field, .. } = instruction;
+    let k = method.head.code;
+    let (wanted, right) = match form.field {
+        Field::Zero => ("must be 0".to_string(), field == 0),
+        Field::Target => {
+            let text = format!("must be a target, 1 to {k}");
+            (text, (1..=k).contains(&field))
+        }
+        Field::Handler => {
+            let text = format!("must be a handler, 1 to {k}, or 0 for none");
+            (text, field <= k)
+        }
+    };
+    let name = form.name;
+    let text = format!("The address field of {name} is {field}, and {wanted}.");
+    (!right).then_some(text)
+}
