@@ -22,7 +22,6 @@ use Rattle.threads.specs.declared.Thread.{Thread}
 use Rattle.threads.specs.Threads.{idle, topOf, varOf, pushed, popped, started}
 use Rattle.state.specs.declared.State.{State}
 use Rattle.state.specs.State.{threadAt, withThread, withCount, withObject, emptyState, notLive, lowestFree}
-use Rattle.belongs.proofs.Belongs.{Belongs}
 use Rattle.machine.specs.declared.Stepped.{Stepped}
 use Rattle.machine.specs.Faults.{lockOf, intFault, newFails, faultOf}
 use Rattle.machine.specs.Waits.{startWait, waitOf}
