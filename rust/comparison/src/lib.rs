@@ -4,6 +4,7 @@ mod differences;
 pub mod digest;
 pub mod order;
 pub mod proved;
+pub mod records;
 pub mod runs;
 pub mod states;
 pub mod traces;

@@ -2,7 +2,7 @@
 
 use reference::bundle::Verdict;
 
-pub use hveitmar::digest;
+pub use hveitmar::{answers, digest, record};
 
 /// The proved verifier's verdict.
 pub fn verdict(bundle: &[u8]) -> Verdict {

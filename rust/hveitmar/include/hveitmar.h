@@ -1,7 +1,7 @@
 /* The proved verifier and machine for C callers: link target/staticlib/libexports.a, which
    `rt staticlib exports` writes. docs/LAW.md says what the numbers mean.
 
-   Both calls take any bytes, always come to an end, write into nothing and keep nothing. */
+   All calls take any bytes, always come to an end, write into nothing and keep nothing. */
 #ifndef HVEITMAR_H
 #define HVEITMAR_H
 
@@ -19,6 +19,15 @@ uint64_t hveitmar_verdict(const uint8_t *bundle, size_t length);
    to 31 times what was there, modulo 2^32, and the first is the fresh machine's own. A step is
    one byte: the low four bits are the thread, the top bit says that an allocation fails. */
 uint64_t hveitmar_digest(const uint8_t *bundle, size_t length, const uint8_t *schedule, size_t steps);
+
+/* The same of steps of any thread number: threads[i], and fails[i] is 1 where an allocation
+   fails, else 0; past the end of fails it is 0. */
+uint64_t hveitmar_answers(const uint8_t *bundle, size_t length, const uint8_t *threads, size_t steps,
+                          const uint8_t *fails, size_t flags);
+
+/* A class's record: its offset in the low half, its length in the upper one. Both are 0 where
+   there is no such class, or the bundle draws one of the verdicts 1 to 6. */
+uint64_t hveitmar_record(const uint8_t *bundle, size_t length, uint8_t class_number);
 
 /* 0: accepted; 1 to 10: refused. */
 static inline unsigned hveitmar_number(uint64_t verdict) { return verdict & 0xFF; }
