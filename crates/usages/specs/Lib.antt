@@ -1,0 +1,5 @@
+pub mod Usage
+pub mod Counts
+pub mod Steps
+pub mod Agreement
+pub mod Letter
