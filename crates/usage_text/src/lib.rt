@@ -103,16 +103,16 @@ fn head_of(s: &[u8]) -> Head
     let a = byte(s, 0);
     let b = byte(s, 1);
     let c = byte(s, 2);
-    if a == 48 {
+    if a == b'0' {
         return Head::Nought;
     }
-    if (a == 76) & (b == 46) {
+    if (a == b'L') & (b == b'.') {
         return Head::Lock;
     }
-    if (a == 94) & ((b == 76) & (c == 46)) {
+    if (a == b'^') & ((b == b'L') & (c == b'.')) {
         return Head::Unlock;
     }
-    if a == 40 {
+    if a == b'(' {
         return Head::Open;
     }
     Head::Other
@@ -197,7 +197,7 @@ fn read_bracket(s: &[u8], depth: usize) -> Taken
         Taken::Nothing => Taken::Nothing,
         Taken::Weighed(left, w) => {
             let r = rest(s, left);
-            if byte(r, 0) == 41 {
+            if byte(r, 0) == b')' {
                 Taken::Weighed(r.len() - 1, w)
             } else {
                 Taken::Nothing
@@ -226,7 +226,7 @@ fn read_shuffle_on(s: &[u8], w: Weight, depth: usize) -> Taken
     requires { ⌜ (length (now s) ≤ 256) × Low (256 - length (now s)) w ⌝ }
     ensures { λ r. ⌜ Onward star both (readPrefixed (readInside depth)) (now (s .entry)) w r ⌝ }
 {
-    if byte(s, 0) != 42 {
+    if byte(s, 0) != b'*' {
         return Taken::Weighed(s.len(), w);
     }
     let b = behind(s, 1);
@@ -260,7 +260,7 @@ fn read_choice_on(s: &[u8], w: Weight, depth: usize) -> Taken
     requires { ⌜ (length (now s) ≤ 256) × Low (256 - length (now s)) w ⌝ }
     ensures { λ r. ⌜ Onward ampersand either (readShuffle (readInside depth)) (now (s .entry)) w r ⌝ }
 {
-    if byte(s, 0) != 38 {
+    if byte(s, 0) != b'&' {
         return Taken::Weighed(s.len(), w);
     }
     let b = behind(s, 1);

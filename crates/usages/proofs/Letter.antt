@@ -1,16 +1,15 @@
 -- The definitions to the letter: a usage that they call reliable, and whose Fin is 1.
 use mathlib.Core.Path.{_≡_, refl, sym, ap, _∙_}
-use mathlib.Core.Logic.{_⊎_, inl, inr, ⊎-elim, _↔_}
+use mathlib.Core.Logic.{_⊎_, inl, inr, ⊎-elim}
 use mathlib.Core.Bool.{Bool, true, false, cond, _&&_, false≢true}
-use Prim.Native.Nat.{ℕ, zero, suc, _+_, _≤_}
+use Prim.Native.Nat.{ℕ, _+_, _≤_}
 use native.Mathlib.Omega.{arith}
 use lib.Dec.{eqb}
-use lib.IntN.{ℤ, pos, _+ℤ_, _-ℤ_}
-use lib.Signed.{_≤ℤ_}
+use lib.IntN.{ℤ, pos, _+ℤ_}
 use borrow.Author.Tests.{eqb-true}
-use Rattle.ground.proofs.Bools.{and-fst, and-snd, and-both}
+use Rattle.ground.proofs.Bools.{and-fst, and-snd}
 use Rattle.usages.specs.Usage.{Usage, done, lock, unlock, either, both}
-use Rattle.usages.specs.Counts.{least, most, minOf, finOf}
+use Rattle.usages.specs.Counts.{most, finOf}
 use Rattle.usages.specs.Letter.{Same, same, back, through, in-lock, in-unlock, in-either, in-both, either-grouped, either-turned, both-grouped, both-turned, both-done, LetterStep, locks, unlocks, by-left, by-right, on-left, alike, LetterReach, here, further, LetterReliable, shown, LetterDiffers, LetterDisagrees}
 
 -- ---- what no congruence changes

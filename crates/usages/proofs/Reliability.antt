@@ -1,8 +1,6 @@
 -- Appendix A against the steps: Min and Fin are what the appendix says they are, and a usage is reliable exactly when both are 0.
-use mathlib.Core.Path.{_≡_, refl, sym, ap, subst}
-use mathlib.Core.Logic.{_↔_}
+use mathlib.Core.Path.{_≡_, refl, ap, subst}
 use mathlib.Core.Bool.{Bool, true, false, _||_, false≢true}
-use Prim.Native.Nat.{ℕ, _+_, _≤_}
 use native.Mathlib.Omega.{arith}
 use lib.IntN.{ℤ, pos, _+ℤ_, _-ℤ_}
 use lib.Signed.{_≤ℤ_}
@@ -10,7 +8,7 @@ use Rattle.ground.proofs.Bools.{or-right, and-fst, and-snd, and-both}
 use Rattle.usages.specs.Usage.{Usage, done, lock, unlock, either, both}
 use Rattle.usages.specs.Counts.{minOf, finOf}
 use Rattle.usages.specs.Agreement.{MinIsLeast, FinIsGreatest, ReliableAgrees, FinishedMeans, UnlocksNextMeans}
-use Rattle.usages.specs.Steps.{Step, locks, unlocks, takes-left, takes-right, on-left, on-right, Reach, here, further, finished, unlocksNext, Reliable, Least, Greatest}
+use Rattle.usages.specs.Steps.{Step, locks, unlocks, takes-left, takes-right, on-left, on-right, Reach, here, further, finished, unlocksNext, Reliable}
 use Rattle.usages.proofs.Whole.{up, down, Le, up-le, le-up, up-eq, sum-up, one-more, one-less, zero-up, zero-down}
 use Rattle.usages.proofs.Bounds.{not-below, not-above}
 use Rattle.usages.proofs.Ways.{way-down, way-out}
