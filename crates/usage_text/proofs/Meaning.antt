@@ -22,7 +22,7 @@ use Rattle.usage_text.specs.Grammar.{TextOf}
 use Rattle.usage_text.specs.Reading.{Read, read, readText, isWhole}
 use Rattle.usage_text.specs.Weights.{weightOf}
 use Rattle.usage_text.specs.Answer.{longest, deepest, dipOf, inRange, isReliable, refusal, told, weighed, usageOf}
-use Rattle.usage_text.specs.Meaning.{Weighs, InEntry, UsageMeans, Says, too-long, no-usage, too-deep, too-wide, is-usage}
+use Rattle.usage_text.specs.Meaning.{Weighs, InEntry, UsageMeans, UsageInEntry, Says, too-long, no-usage, too-deep, too-wide, is-usage}
 use Rattle.usage_text.proofs.Weights.{min-dip}
 use Rattle.usage_text.proofs.Grammar.{text-read, whole-text, text-whole}
 use Rattle.usage_text.proofs.Depth.{deep-enough}
@@ -75,6 +75,11 @@ entry-in : (u : Usage) → InEntry (dipOf u) (finOf u) → inRange u ≡ true
 unfolding inRange
 entry-in u h =
     and-both (leb (dipOf u) 63) (leb (natAbs (finOf u)) 63) (le-leb _ _ (h .dip-in)) (le-leb _ _ (zero-near (finOf u) (h .end-above) (h .end-below)))
+
+nothing-in : InEntry 0 (pos 0)
+nothing-in =
+    let z = near-zero (pos 0) (omega arith) in
+    record { dip-in = omega arith; end-above = z .0; end-below = z .1 }
 
 -- ---- the answer says so
 weighed-says : (s : List ℕ) (u : Usage) → length s ≤ longest → TextOf deepest s u → (t : Bool) → inRange u ≡ t
@@ -175,3 +180,19 @@ says-answer s a (is-usage l {u} p {d} {e} {b} w h) = go (weighs-once u w)
 -- THEOREM
 pub usage-means : UsageMeans
 usage-means s a = (says-answer s a, λ e. subst (λ (x : Reading). Says s x) (sym e) (answer-says s))
+
+says-in-entry : {s : List ℕ} {a : Reading} → Says s a → InEntry (a .dip) (a .end)
+unfolding up down
+says-in-entry (too-long h) = nothing-in
+says-in-entry (no-usage l h) = nothing-in
+says-in-entry (too-deep l d p h) = nothing-in
+says-in-entry (too-wide l p w h) = nothing-in
+says-in-entry (is-usage l p w h) = h
+
+-- THEOREM
+pub usage-in-entry : UsageInEntry
+usage-in-entry s = says-in-entry (answer-says s)
+
+-- the same of the end's size, for those who compute with it
+pub end-small : (s : List ℕ) → natAbs (usageOf s .end) ≤ 63
+end-small s = let h = usage-in-entry s in zero-near (usageOf s .end) (h .end-above) (h .end-below)

@@ -43,3 +43,7 @@ pub data Says (s : List ℕ) : Reading → Type 0 where
 -- of every text exactly one answer is so, and it is the one given
 abbrev pub UsageMeans : Type 0
 UsageMeans = (s : List ℕ) (a : Reading) → Says s a ↔ (a ≡ usageOf s)
+
+-- and its numbers are in the entry's range, on a refusal too
+abbrev pub UsageInEntry : Type 0
+UsageInEntry = (s : List ℕ) → InEntry (usageOf s .dip) (usageOf s .end)
