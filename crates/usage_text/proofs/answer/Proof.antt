@@ -1,4 +1,5 @@
 use mathlib.Core.Path.{refl, _∙_}
+use native.Mathlib.Omega.{arith}
 use mir.Facts.{toZ-ofZ}
 use Rattle.usage_text.proofs.Answers.{wide-dip, wide-rise, in-range}
 use borrow.Author.Needs.{needs, sfits-of}
@@ -18,7 +19,7 @@ refusal-requires-2 : tie.Need-refusal-requires-2
 refusal-requires-2 c κs = search needs
 
 returns-2 : tie.Need-returns-2
-returns-2 c = c .refusal2 .ensures ∙ wide-rise (c .before .before .before .before .before .before .args .w) (c .before .before .before .before .if1 .left) (c .before .if2 .taken)
+returns-2 c = c .refusal2 .ensures ∙ wide-rise (c .before .before .before .before .before .before .args .w) (c .before .before .before .before .if1 .left) (omega (arith, c .before .if2 .taken))
 
 end-of-requires : tie.Need-end-of-requires
 end-of-requires c κs = search needs

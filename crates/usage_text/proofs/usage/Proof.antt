@@ -20,7 +20,7 @@ weight-taken-requires : tie.Need-weight-taken-requires
 weight-taken-requires c κs = search needs
 
 answer-requires : tie.Need-answer-requires
-answer-requires c κs = rw (c .weight-taken .ensures) (low-taken 16 (c .before .before .before .before .before .before .args .text .now) (c .before .before .before .before .if1 .left) (c .before .before .before .read-choice .ensures))
+answer-requires c κs = rw (c .weight-taken .ensures) (low-taken _ (c .before .before .before .before .before .before .args .text .now) (c .before .before .before .before .if1 .left) (c .before .before .before .read-choice .ensures))
 
 returns-2 : tie.Need-returns-2
 returns-2 c = c .answer .ensures ∙ rw (c .before .weight-taken .ensures) (is-usage (c .before .before .before .before .before .before .before .args .text .now) (c .before .before .before .before .before .if1 .left) (c .before .before .before .before .read-choice .ensures) (sym (c .before .before .before .whole-taken .ensures) ∙ c .before .before .if2 .taken))
