@@ -18,7 +18,7 @@ use Rattle.usage_text.specs.declared.Weight.{Weight}
 use Rattle.usage_text.specs.declared.Taken.{Taken}
 use Rattle.usage_text.specs.Reading.{Read, unread, read, readText, isWhole}
 use Rattle.usage_text.specs.Weights.{weightOf, takenOf, Low}
-use Rattle.usage_text.specs.Answer.{longest, deepest, dipOf, inRange, isReliable, refusal, told, weighed, usageOf, wholeTaken, weightTaken, endOf, answerOf}
+use Rattle.usage_text.specs.Answer.{longest, deepest, anyDepth, dipOf, inRange, isReliable, refusal, told, weighed, usageOf, wholeTaken, weightTaken, endOf, answerOf}
 use Rattle.usage_text.proofs.Weights.{dip-is, end-is, end-far, end-near}
 use Rattle.usage_text.proofs.Bounds.{choice-room}
 use Rattle.usage_text.proofs.Grammar.{whole-deeper}
@@ -119,18 +119,18 @@ module _ (s : List ℕ) where
     unfolding usageOf refuse
     is-usage e =
         let h : isWhole (readText deepest s) ≡ true = sym (ap wholeTaken p ∙ whole-taken (readText deepest s)) ∙ e in
-        rw (le-leb (length s) longest short, whole-deeper deepest longest s short h, h, p) (weight-taken (readText deepest s) h)
+        rw (le-leb (length s) longest short, whole-deeper deepest anyDepth s short h, h, p) (weight-taken (readText deepest s) h)
 
-    module _ (e : wholeTaken t ≡ false) {x : Taken} (q : x ≡ takenOf (readText longest s)) where
+    module _ (e : wholeTaken t ≡ false) {x : Taken} (q : x ≡ takenOf (readText anyDepth s)) where
       pub too-deep : wholeTaken x ≡ true → refusal 42 ≡ usageOf s
       unfolding usageOf refuse
       too-deep f =
           rw (
             le-leb (length s) longest short,
-            sym (ap wholeTaken q ∙ whole-taken (readText longest s)) ∙ f,
+            sym (ap wholeTaken q ∙ whole-taken (readText anyDepth s)) ∙ f,
             sym (ap wholeTaken p ∙ whole-taken (readText deepest s)) ∙ e,
           )
 
       pub not-usage : wholeTaken x ≡ false → refusal 41 ≡ usageOf s
       unfolding usageOf refuse
-      not-usage f = rw (le-leb (length s) longest short, sym (ap wholeTaken q ∙ whole-taken (readText longest s)) ∙ f)
+      not-usage f = rw (le-leb (length s) longest short, sym (ap wholeTaken q ∙ whole-taken (readText anyDepth s)) ∙ f)

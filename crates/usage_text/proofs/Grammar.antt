@@ -2,8 +2,7 @@
 use mathlib.Core.Path.{_≡_, refl, sym, ap, subst, _∙_}
 use mathlib.Core.List.{List, [], _∷_, append-nil}
 use mathlib.Core.Bool.{true, false≢true}
-use Prim.Native.Nat.{ℕ, _≤_}
-use native.Mathlib.Nat.{le-refl}
+use Prim.Native.Nat.{ℕ, _+_, _*_, _≤_}
 use native.Mathlib.Omega.{arith}
 use lib.ListN.{length}
 use borrow.Author.Tests.{eqb-true}
@@ -31,8 +30,8 @@ reads-texts d s u = (text-read d s u, read-text d s u)
 pub one-usage : OneUsage
 one-usage d e s u v p q =
     same-usage
-    (sym (text-read (length s) s u (deep-enough d (length s) s u (le-refl (length s)) p))
-    ∙ text-read (length s) s v (deep-enough e (length s) s v (le-refl (length s)) q))
+    (sym (text-read (length s) s u (deep-enough d (length s) s u (omega arith) p))
+    ∙ text-read (length s) s v (deep-enough e (length s) s v (omega arith) q))
 
 -- ---- read whole
 no-bytes : (r : List ℕ) → length r ≡ 0 → r ≡ []
@@ -51,6 +50,6 @@ pub text-whole : (d : ℕ) (s : List ℕ) (u : Usage) → TextOf d s u → isWho
 unfolding isWhole
 text-whole d s u p = rw (text-read d s u p)
 
--- what is a usage within a depth is one with room for all its bytes
-pub whole-deeper : (d e : ℕ) (s : List ℕ) → length s ≤ e → isWhole (readText d s) ≡ true → isWhole (readText e s) ≡ true
+-- what is a usage within a depth is one where there is room for all its bytes
+pub whole-deeper : (d e : ℕ) (s : List ℕ) → length s ≤ 2 * e + 2 → isWhole (readText d s) ≡ true → isWhole (readText e s) ≡ true
 whole-deeper d e s l h = let x = whole-text d s h in text-whole e s (x .0) (deep-enough d e s (x .0) l (x .2))

@@ -21,7 +21,7 @@ use Rattle.usage_text.specs.declared.Reading.{Reading}
 use Rattle.usage_text.specs.Grammar.{TextOf}
 use Rattle.usage_text.specs.Reading.{Read, read, readText, isWhole}
 use Rattle.usage_text.specs.Weights.{weightOf}
-use Rattle.usage_text.specs.Answer.{longest, deepest, dipOf, inRange, isReliable, refusal, told, weighed, usageOf}
+use Rattle.usage_text.specs.Answer.{longest, deepest, anyDepth, dipOf, inRange, isReliable, refusal, told, weighed, usageOf}
 use Rattle.usage_text.specs.Meaning.{Weighs, InEntry, UsageMeans, UsageInEntry, Says, too-long, no-usage, too-deep, too-wide, is-usage}
 use Rattle.usage_text.proofs.Weights.{min-dip}
 use Rattle.usage_text.proofs.Grammar.{text-read, whole-text, text-whole}
@@ -95,23 +95,23 @@ answer-says s = long (leb (length s) longest) refl
     read-as : (x : Read) (u : Usage) → x ≡ read u [] → weighed x ≡ refuse (inRange u) (refusal 43) (told u)
     read-as x u e = ap weighed e
 
-    deep : length s ≤ longest → (t : Bool) → isWhole (readText deepest s) ≡ t → isWhole (readText longest s) ≡ true
+    deep : length s ≤ longest → (t : Bool) → isWhole (readText deepest s) ≡ t → isWhole (readText anyDepth s) ≡ true
         → Says s (refuse t (refusal 42) (weighed (readText deepest s)))
     deep l true e f =
         let w = whole-text deepest s e in
         subst (λ (a : Reading). Says s a) (sym (read-as (readText deepest s) (w .0) (w .1))) (weighed-says s (w .0) l (w .2) (inRange (w .0)) refl)
     deep l false e f =
-        let w = whole-text longest s f in
-        too-deep l longest (w .2) (λ v p. never (text-whole deepest s v p) e)
+        let w = whole-text anyDepth s f in
+        too-deep l anyDepth (w .2) (λ v p. never (text-whole deepest s v p) e)
 
-    none : length s ≤ longest → (t : Bool) → isWhole (readText longest s) ≡ t
+    none : length s ≤ longest → (t : Bool) → isWhole (readText anyDepth s) ≡ t
         → Says s (refuse t (refusal 41) (refuse (isWhole (readText deepest s)) (refusal 42) (weighed (readText deepest s))))
     none l true e = deep l (isWhole (readText deepest s)) refl e
-    none l false e = no-usage l (λ d u p. never (text-whole longest s u (deep-enough d longest s u l p)) e)
+    none l false e = no-usage l (λ d u p. never (text-whole anyDepth s u (deep-enough d anyDepth s u l p)) e)
 
     long : (t : Bool) → leb (length s) longest ≡ t
-        → Says s (refuse t (refusal 40) (refuse (isWhole (readText longest s)) (refusal 41) (refuse (isWhole (readText deepest s)) (refusal 42) (weighed (readText deepest s)))))
-    long true e = none (leb-true (length s) longest e) (isWhole (readText longest s)) refl
+        → Says s (refuse t (refusal 40) (refuse (isWhole (readText anyDepth s)) (refusal 41) (refuse (isWhole (readText deepest s)) (refusal 42) (weighed (readText deepest s)))))
+    long true e = none (leb-true (length s) longest e) (isWhole (readText anyDepth s)) refl
     long false e = too-long (leb-false (length s) longest e)
 
 -- ---- and no other answer does
@@ -148,7 +148,7 @@ module _ (s : List ℕ) (l : length s ≤ longest) where
   usage-answer : (u : Usage) → TextOf deepest s u → (t : Bool) → inRange u ≡ t → usageOf s ≡ refuse t (refusal 43) (told u)
   unfolding usageOf refuse weighed
   usage-answer u p t e =
-      rw (le-leb (length s) longest l, text-whole longest s u (deep-enough deepest longest s u l p), text-whole deepest s u p, text-read deepest s u p, e)
+      rw (le-leb (length s) longest l, text-whole anyDepth s u (deep-enough deepest anyDepth s u l p), text-whole deepest s u p, text-read deepest s u p, e)
 
   no-text : (d : ℕ) → ((u : Usage) → TextOf d s u → ⊥) → isWhole (readText d s) ≡ false
   no-text d h = go (isWhole (readText d s)) refl
@@ -160,9 +160,9 @@ module _ (s : List ℕ) (l : length s ≤ longest) where
 pub says-answer : (s : List ℕ) (a : Reading) → Says s a → a ≡ usageOf s
 unfolding usageOf refuse
 says-answer s a (too-long h) = rw (lt-leb (length s) longest h)
-says-answer s a (no-usage l h) = rw (le-leb (length s) longest l, no-text s l longest (h longest))
+says-answer s a (no-usage l h) = rw (le-leb (length s) longest l, no-text s l anyDepth (h anyDepth))
 says-answer s a (too-deep l d {u} p h) =
-    rw (le-leb (length s) longest l, text-whole longest s u (deep-enough d longest s u l p), no-text s l deepest h)
+    rw (le-leb (length s) longest l, text-whole anyDepth s u (deep-enough d anyDepth s u l p), no-text s l deepest h)
 says-answer s a (too-wide l {u} p {d} {e} {b} w h) = sym (usage-answer s l u p false (go (inRange u) refl))
   where
     go : (t : Bool) → inRange u ≡ t → t ≡ false

@@ -15,13 +15,17 @@ use Rattle.usage_text.specs.declared.Taken.{Taken}
 use Rattle.usage_text.specs.declared.Taken.the-variants.{Nothing, Weighed}
 use Rattle.usage_text.specs.declared.Reading.{Reading}
 
--- "a text of at most 256 bytes": it has no more brackets than that, however deep
+-- "a text of at most 256 bytes"
 abbrev pub longest : ℕ
 longest = 256
 
 -- "brackets nested at most 16 deep"
 abbrev pub deepest : ℕ
 deepest = 16
+
+-- no usage of 256 bytes has brackets nested deeper
+abbrev pub anyDepth : ℕ
+anyDepth = 127
 
 -- "the entry's range": an entry's dip is 0..63, its end −63..63
 abbrev pub widest : ℕ
@@ -54,7 +58,7 @@ weighed (read u r) = refuse (inRange u) (refusal 43) (told u)
 unfoldable pub usageOf : List ℕ → Reading
 usageOf s =
     refuse (leb (length s) longest) (refusal 40)
-    (refuse (isWhole (readText longest s)) (refusal 41)
+    (refuse (isWhole (readText anyDepth s)) (refusal 41)
     (refuse (isWhole (readText deepest s)) (refusal 42)
     (weighed (readText deepest s))))
 

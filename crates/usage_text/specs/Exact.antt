@@ -2,7 +2,7 @@
 use mathlib.Core.Path.{_≡_}
 use mathlib.Core.Logic.{_↔_}
 use mathlib.Core.List.{List, []}
-use Prim.Native.Nat.{ℕ, _≤_}
+use Prim.Native.Nat.{ℕ, _+_, _*_, _≤_}
 use lib.ListN.{length}
 use Rattle.usages.specs.Usage.{Usage}
 use Rattle.usage_text.specs.Grammar.{TextOf}
@@ -17,9 +17,9 @@ ReadsTexts = (d : ℕ) (s : List ℕ) (u : Usage) → TextOf d s u ↔ (readText
 abbrev pub OneUsage : Type 0
 OneUsage = (d e : ℕ) (s : List ℕ) (u v : Usage) → TextOf d s u → TextOf e s v → u ≡ v
 
--- brackets are never nested deeper than the text has bytes: what is a usage at some depth is one at that
+-- a bracket takes two bytes, and what it holds one at least: what is a usage at some depth is one at any for which the bytes are too few
 abbrev pub DeepEnough : Type 0
-DeepEnough = (d e : ℕ) (s : List ℕ) (u : Usage) → length s ≤ e → TextOf d s u → TextOf e s u
+DeepEnough = (d e : ℕ) (s : List ℕ) (u : Usage) → length s ≤ 2 * e + 2 → TextOf d s u → TextOf e s u
 
 -- every usage has a text, and is read back from it
 abbrev pub ReadBack : Type 0

@@ -331,7 +331,7 @@ fn answer(w: Weight) -> Reading
 }
 
 // The text's usage: its dip and end, and whether it is reliable; or why it is refused.
-// A text that is no usage with 16 brackets open may be one with more: then it is too deep, else it is no usage at all.
+// A text that is no usage with 16 brackets open may be one with more: then it is too deep, else it is no usage at all. 256 bytes have room for 127.
 pub fn usage(text: &[u8]) -> Reading
     ensures { λ r. ⌜ r ≡ usageOf (now (text .entry)) ⌝ }
 {
@@ -342,7 +342,7 @@ pub fn usage(text: &[u8]) -> Reading
     if whole_taken(shallow) {
         return answer(weight_taken(shallow));
     }
-    let deep = read_choice(text, 256);
+    let deep = read_choice(text, 127);
     if whole_taken(deep) {
         return refusal(42);
     }
