@@ -82,7 +82,7 @@ unfolding refuse
 two true b c v x h = rw (h refl)
 two false b c v x h = refl
 
-pub weight-answer : (u : Usage) → answerOf (weightOf u) ≡ refuse (inRange u) (refusal 43) (told u)
+weight-answer : (u : Usage) → answerOf (weightOf u) ≡ refuse (inRange u) (refusal 43) (told u)
 unfolding answerOf inRange isReliable
 weight-answer u =
     two (leb (weightOf u .dip) 63) (leb (weightOf u .rise) (weightOf u .dip + 63)) (leb (natAbs (finOf u)) 63) _ _ (range-is u)

@@ -16,11 +16,11 @@ use Rattle.usage_text.proofs.Sound.{Sound, sound-prefixed, sound-shuffl
 use Rattle.usage_text.proofs.Fuel.{read-nought, read-lock, read-unlock, read-open, rest-short, onward-stop, onward-more}
 
 -- the sign does not follow
-abbrev pub Stops : ℕ → List ℕ → Type 0
+abbrev Stops : ℕ → List ℕ → Type 0
 Stops sign r = eqb (at r 0) sign ≡ false
 
 -- texts of this sort are read, in front of what Behind holds of
-abbrev pub Full : Texts → (List ℕ → Type 0) → (List ℕ → Read) → Type 0
+abbrev Full : Texts → (List ℕ → Type 0) → (List ℕ → Read) → Type 0
 Full P Behind reads = (s : List ℕ) (u : Usage) → P s u → (r : List ℕ) → Behind r → reads (s ++ r) ≡ read u r
 
 abbrev Anything : List ℕ → Type 0
@@ -48,11 +48,11 @@ unfolding closed
 closes u r = refl
 
 -- a closing bracket lies behind
-abbrev pub Closing : List ℕ → Type 0
+abbrev Closing : List ℕ → Type 0
 Closing l = (r : List ℕ) × (l ≡ close-sign ∷ r)
 
 module _ (P : Texts) (inside : List ℕ → Read) (full : Full P Closing inside) where
-  pub full-prefixed : Full (Prefixed P) Anything (readPrefixed inside)
+  full-prefixed : Full (Prefixed P) Anything (readPrefixed inside)
   full-prefixed s u plain r t = read-nought inside (nought ∷ r) (nought-head r)
   full-prefixed s u (locked {s = q} {u = v} p) r t =
       read-lock inside (ell ∷ dot ∷ (q ++ r)) (lock-head (q ++ r)) ∙ ap (under lock) (full-prefixed q v p r t)
@@ -79,7 +79,7 @@ module _ (P : Texts) (Behind : List ℕ → Type 0) (part : List ℕ → Read) (
       ∙ joined q v j (sign ∷ (t ++ r)) (behind (t ++ r))
       ∙ onward-more sign join part positive (rest-short ok) v w (sign ∷ (t ++ r)) r (sign-first (t ++ r)) (full t w p r b)
 
-  pub full-joined : Full (Joined P sign join) (λ r. Behind r × Stops sign r) (chain sign join part)
+  full-joined : Full (Joined P sign join) (λ r. Behind r × Stops sign r) (chain sign join part)
   full-joined s u j r b = joined s u j r (b .0) ∙ onward-stop sign join part (length r) u r (b .1)
 
 -- neither * nor & follows
@@ -87,19 +87,19 @@ abbrev pub Ends : List ℕ → Type 0
 Ends r = Stops star r × Stops ampersand r
 
 module _ (P : Texts) (inside : List ℕ → Read) (ok : Sound P inside) (full : Full P Closing inside) where
-  pub full-shuffle : Full (Shuffle P) (Stops star) (readShuffle inside)
+  full-shuffle : Full (Shuffle P) (Stops star) (readShuffle inside)
   unfolding readShuffle
   full-shuffle s u j r b =
       full-joined (Prefixed P) Anything (readPrefixed inside) star (lit< tt) both
       (sound-prefixed P inside ok) (full-prefixed P inside full) (λ l. tt) s u j r (tt, b)
 
-  pub full-choice : Full (Choice P) Ends (readChoice inside)
+  full-choice : Full (Choice P) Ends (readChoice inside)
   unfolding readChoice
   full-choice s u j r b =
       full-joined (Shuffle P) (Stops star) (readShuffle inside) ampersand (lit< tt) either
       (sound-shuffle P inside ok) full-shuffle (λ l. refl) s u j r b
 
-pub full-inside : (d : ℕ) → Full (Inside d) Closing (readInside d)
+full-inside : (d : ℕ) → Full (Inside d) Closing (readInside d)
 unfolding Inside readInside
 full-inside zero s u p r b = absurd p
 full-inside (suc d) s u p r b =

@@ -17,7 +17,7 @@ use Rattle.usage_text.proofs.Depth.{deep-enough}
 pub text-read : (d : ℕ) (s : List ℕ) (u : Usage) → TextOf d s u → readText d s ≡ read u []
 text-read d s u p = ap (readText d) (sym (append-nil s)) ∙ full-text d s u p [] (refl, refl)
 
-pub read-text : (d : ℕ) (s : List ℕ) (u : Usage) → readText d s ≡ read u [] → TextOf d s u
+read-text : (d : ℕ) (s : List ℕ) (u : Usage) → readText d s ≡ read u [] → TextOf d s u
 read-text d s u e =
     let t = sound-text d s u [] e in
     subst (λ (l : List ℕ). TextOf d l u) (sym (t .split ∙ append-nil (t .front))) (t .text)

@@ -7,7 +7,7 @@ pub mod Grammar
 pub mod Weights
 pub mod Bounds
 pub mod Parts
-pub mod Exact
+pub mod Turns
 pub mod Answers
 pub mod Meaning
 pub mod Writing

@@ -88,7 +88,7 @@ unfolding refuse
 weighed-says s u l p true e = is-usage l p (weighs u) (in-entry u e)
 weighed-says s u l p false e = too-wide l p (weighs u) (λ h. never (entry-in u h) e)
 
-pub answer-says : (s : List ℕ) → Says s (usageOf s)
+answer-says : (s : List ℕ) → Says s (usageOf s)
 unfolding usageOf refuse weighed
 answer-says s = long (leb (length s) longest) refl
   where
@@ -157,7 +157,7 @@ module _ (s : List ℕ) (l : length s ≤ longest) where
       go true e = let w = whole-text d s e in absurd (h (w .0) (w .2))
       go false e = refl
 
-pub says-answer : (s : List ℕ) (a : Reading) → Says s a → a ≡ usageOf s
+says-answer : (s : List ℕ) (a : Reading) → Says s a → a ≡ usageOf s
 unfolding usageOf refuse
 says-answer s a (too-long h) = rw (lt-leb (length s) longest h)
 says-answer s a (no-usage l h) = rw (le-leb (length s) longest l, no-text s l anyDepth (h anyDepth))

@@ -27,20 +27,20 @@ abbrev pub Sound : Texts → (List ℕ → Read) → Type 0
 Sound P reads = (s : List ℕ) (u : Usage) (r : List ℕ) → reads s ≡ read u r → Took P s u r
 
 -- ---- what was read
-pub not-read : {A : Type 0} {u : Usage} {r : List ℕ} → unread ≡ read u r → A
+not-read : {A : Type 0} {u : Usage} {r : List ℕ} → unread ≡ read u r → A
 not-read e = let z : _≡_ {A = ℕ} 0 1 = cc in absurd (omega arith)
 
 pub same-usage : {u v : Usage} {r s : List ℕ} → read u r ≡ read v s → u ≡ v
 same-usage e = cc
 
-pub same-rest : {u v : Usage} {r s : List ℕ} → read u r ≡ read v s → r ≡ s
+same-rest : {u v : Usage} {r s : List ℕ} → read u r ≡ read v s → r ≡ s
 same-rest e = cc
 
-pub under-read : (f : Usage → Usage) (x : Read) (u : Usage) (r : List ℕ) → under f x ≡ read u r → (v : Usage) × (x ≡ read v r) × (f v ≡ u)
+under-read : (f : Usage → Usage) (x : Read) (u : Usage) (r : List ℕ) → under f x ≡ read u r → (v : Usage) × (x ≡ read v r) × (f v ≡ u)
 under-read f unread u r e = not-read e
 under-read f (read v q) u r e = (v, ap (read v) (same-rest e), same-usage e)
 
-pub closed-read : (x : Read) (u : Usage) (r : List ℕ) → closed x ≡ read u r → x ≡ read u (close-sign ∷ r)
+closed-read : (x : Read) (u : Usage) (r : List ℕ) → closed x ≡ read u r → x ≡ read u (close-sign ∷ r)
 unfolding closed
 closed-read unread u r e = not-read e
 closed-read (read v q) u r e = go (eqb (at q 0) close-sign) refl e
@@ -67,7 +67,7 @@ module _ (P : Texts) (inside : List ℕ → Read) (ok : Sound P inside) where
         text = bracket (t .text);
       }
 
-  pub prefixed-sound : (k : ℕ) → Sound (Prefixed P) (prefixed inside k)
+  prefixed-sound : (k : ℕ) → Sound (Prefixed P) (prefixed inside k)
   unfolding prefixed
   prefixed-sound zero s u r e = not-read e
   prefixed-sound (suc k) s u r e = go (headOf s) refl (prefixed-sound k)
@@ -117,7 +117,7 @@ module _ (P : Texts) (part : List ℕ → Read) (sign : ℕ) (positive : 0 < sig
             text = m .text;
           }
 
-  pub chain-sound : Sound (Joined P sign join) (chain sign join part)
+  chain-sound : Sound (Joined P sign join) (chain sign join part)
   unfolding chain chainFrom
   chain-sound s v r e = go (part s) refl e
     where

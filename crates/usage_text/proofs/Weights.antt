@@ -2,14 +2,14 @@
 use mathlib.Core.Path.{_≡_, refl}
 use mathlib.Core.Logic.{_⊎_, inl, inr, ⊎-elim}
 use mathlib.Core.Bool.{Bool, true, false, cond}
-use Prim.Native.Nat.{ℕ, zero, suc, _+_, _-_, _≤_}
+use Prim.Native.Nat.{ℕ, _+_, _-_, _≤_}
 use native.Mathlib.Omega.{arith}
 use lib.Dec.{ltb}
 use lib.IntN.{ℤ, pos, negsuc, natAbs, negℤ, _+ℤ_, _-ℤ_}
 use borrow.Author.Tests.{ltb-true, ltb-false}
 use Rattle.usages.specs.Usage.{Usage, done, lock, unlock, either, both}
 use Rattle.usages.specs.Counts.{least, most, minOf, finOf}
-use Rattle.usages.proofs.Whole.{up, down, up-eq, sum-up, one-more, one-less, zero-up, zero-down, least-is, most-is}
+use Rattle.usages.proofs.Whole.{up, down, up-eq, sum-up, one-more, one-less, zero-up, zero-down, pos-up, minus-up, least-is, most-is}
 use Rattle.usage_text.specs.Weights.{greater, afterLock, eitherOf, weightOf}
 use Rattle.usage_text.specs.Answer.{dipOf}
 
@@ -20,6 +20,12 @@ greater-is a b = go (ltb a b) refl
     go : (t : Bool) → ltb a b ≡ t → ((cond t b a ≡ b) × (a ≤ b)) ⊎ ((cond t b a ≡ a) × (b ≤ a))
     go true e = inl (refl, omega (arith, ltb-true a b e))
     go false e = inr (refl, ltb-false a b e)
+
+greater-first : (a b : ℕ) → b ≤ a → greater a b ≡ a
+greater-first a b l = ⊎-elim (λ g. omega (arith, g .0, g .1)) (λ g. g .0) (greater-is a b)
+
+greater-second : (a b : ℕ) → a ≤ b → greater a b ≡ b
+greater-second a b l = ⊎-elim (λ g. g .0) (λ g. omega (arith, g .0, g .1)) (greater-is a b)
 
 -- ---- Min
 pub min-dip : (u : Usage) → up (minOf u) + weightOf u .dip ≡ down (minOf u)
@@ -41,10 +47,8 @@ min-dip (either u v) = go (min-dip u) (min-dip v)
         → up (least (minOf u) (minOf v)) + greater (weightOf u .dip) (weightOf v .dip) ≡ down (least (minOf u) (minOf v))
     go h k =
         ⊎-elim
-        (λ p. ⊎-elim (λ q. rw (p .0, q .0) (omega (arith, h, k, p .1, q .1))) (λ q. rw (p .0, q .0) (omega (arith, h, k, p .1, q .1)))
-        (greater-is (weightOf u .dip) (weightOf v .dip)))
-        (λ p. ⊎-elim (λ q. rw (p .0, q .0) (omega (arith, h, k, p .1, q .1))) (λ q. rw (p .0, q .0) (omega (arith, h, k, p .1, q .1)))
-        (greater-is (weightOf u .dip) (weightOf v .dip)))
+        (λ p. rw (p .0, greater-first (weightOf u .dip) (weightOf v .dip) (omega (arith, h, k, p .1))) h)
+        (λ p. rw (p .0, greater-second (weightOf u .dip) (weightOf v .dip) (omega (arith, h, k, p .1))) k)
         (least-is (minOf u) (minOf v))
 min-dip (both u v) = omega (arith, min-dip u, min-dip v, sum-up (minOf u) (minOf v))
 
@@ -53,43 +57,14 @@ min-dip (both u v) = omega (arith, min-dip u, min-dip v, sum-up (minOf u) (minOf
 module _ (a b : ℤ) (d r e s : ℕ) (p : up a + d ≡ down a + r) (q : up b + e ≡ down b + s) where
   higher : up (most a b) + greater d e ≡ down (most a b) + greater (r + (e - d)) (s + (d - e))
   higher =
-      ⊎-elim (λ m. ⊎-elim (λ g. by m g) (λ g. by' m g) (greater-is d e)) (λ m. ⊎-elim (λ g. of m g) (λ g. of' m g) (greater-is d e)) (most-is a b)
-    where
-      ends : (z x y k : ℕ) → ((greater x y ≡ y) × (x ≤ y)) ⊎ ((greater x y ≡ x) × (y ≤ x)) → x ≤ y → z ≡ k + y → z ≡ k + greater x y
-      ends z x y k g l h = ⊎-elim (λ w. rw (w .0) h) (λ w. rw (w .0) (omega (arith, w .1))) g
+      ⊎-elim
+      (λ m. rw (m .0, greater-second (r + (e - d)) (s + (d - e)) (omega (arith, p, q, m .1)))
+      (⊎-elim (λ g. rw (g .0) (omega (arith, q, g .1))) (λ g. rw (g .0) (omega (arith, q, g .1))) (greater-is d e)))
+      (λ m. rw (m .0, greater-first (r + (e - d)) (s + (d - e)) (omega (arith, p, q, m .1)))
+      (⊎-elim (λ g. rw (g .0) (omega (arith, p, g .1))) (λ g. rw (g .0) (omega (arith, p, g .1))) (greater-is d e)))
+      (most-is a b)
 
-      ends' : (z x y k : ℕ) → ((greater x y ≡ y) × (x ≤ y)) ⊎ ((greater x y ≡ x) × (y ≤ x)) → y ≤ x → z ≡ k + x → z ≡ k + greater x y
-      ends' z x y k g l h = ⊎-elim (λ w. rw (w .0) (omega (arith, w .1))) (λ w. rw (w .0) h) g
-
-      by : (most a b ≡ b) × (up a + down b ≤ up b + down a) → (greater d e ≡ e) × (d ≤ e)
-          → up (most a b) + greater d e ≡ down (most a b) + greater (r + (e - d)) (s + (d - e))
-      by m g =
-          rw (m .0, g .0)
-          (ends (up b + e) (r + (e - d)) (s + (d - e)) (down b) (greater-is (r + (e - d)) (s + (d - e)))
-          (omega (arith, m .1, g .1)) (omega (arith, g .1)))
-
-      by' : (most a b ≡ b) × (up a + down b ≤ up b + down a) → (greater d e ≡ d) × (e ≤ d)
-          → up (most a b) + greater d e ≡ down (most a b) + greater (r + (e - d)) (s + (d - e))
-      by' m g =
-          rw (m .0, g .0)
-          (ends (up b + d) (r + (e - d)) (s + (d - e)) (down b) (greater-is (r + (e - d)) (s + (d - e)))
-          (omega (arith, m .1, g .1)) (omega (arith, g .1)))
-
-      of : (most a b ≡ a) × (up b + down a ≤ up a + down b) → (greater d e ≡ e) × (d ≤ e)
-          → up (most a b) + greater d e ≡ down (most a b) + greater (r + (e - d)) (s + (d - e))
-      of m g =
-          rw (m .0, g .0)
-          (ends' (up a + e) (r + (e - d)) (s + (d - e)) (down a) (greater-is (r + (e - d)) (s + (d - e)))
-          (omega (arith, m .1, g .1)) (omega (arith, g .1)))
-
-      of' : (most a b ≡ a) × (up b + down a ≤ up a + down b) → (greater d e ≡ d) × (e ≤ d)
-          → up (most a b) + greater d e ≡ down (most a b) + greater (r + (e - d)) (s + (d - e))
-      of' m g =
-          rw (m .0, g .0)
-          (ends' (up a + d) (r + (e - d)) (s + (d - e)) (down a) (greater-is (r + (e - d)) (s + (d - e)))
-          (omega (arith, m .1, g .1)) (omega (arith, g .1)))
-
-pub fin-rise : (u : Usage) → up (finOf u) + weightOf u .dip ≡ down (finOf u) + weightOf u .rise
+fin-rise : (u : Usage) → up (finOf u) + weightOf u .dip ≡ down (finOf u) + weightOf u .rise
 unfolding finOf weightOf afterLock eitherOf
 fin-rise done = omega (arith, zero-up, zero-down)
 fin-rise (lock u) = omega (arith, fin-rise u, one-more (finOf u))
@@ -108,19 +83,10 @@ pub dip-is : (u : Usage) → dipOf u ≡ weightOf u .dip
 unfolding dipOf
 dip-is u = below-zero (minOf u) (weightOf u .dip) (min-dip u)
 
-minus : (d : ℕ) → up (negℤ (pos d)) + d ≡ down (negℤ (pos d))
-unfolding up down
-minus zero = omega arith
-minus (suc d) = omega arith
-
-pos-up : (n : ℕ) → (up (pos n) ≡ n) × (down (pos n) ≡ 0)
-unfolding up down
-pos-up n = (refl, refl)
-
 pub end-is : (u : Usage) → finOf u ≡ pos (weightOf u .rise) -ℤ pos (weightOf u .dip)
 end-is u =
     up-eq (finOf u) (pos (weightOf u .rise) -ℤ pos (weightOf u .dip))
-    (omega (arith, fin-rise u, sum-up (pos (weightOf u .rise)) (negℤ (pos (weightOf u .dip))), minus (weightOf u .dip), pos-up (weightOf u .rise)))
+    (omega (arith, fin-rise u, sum-up (pos (weightOf u .rise)) (negℤ (pos (weightOf u .dip))), minus-up (weightOf u .dip), pos-up (weightOf u .rise)))
 
 -- how far the end is from 0
 far : (z : ℤ) (d r n : ℕ) → up z + d ≡ down z + r → natAbs z ≤ n → (r ≤ d + n) × (d ≤ r + n)

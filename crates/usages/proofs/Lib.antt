@@ -3,3 +3,4 @@ pub mod Bounds
 pub mod Ways
 pub mod Reliability
 pub mod Letter
+pub mod Pairs

@@ -33,7 +33,7 @@ fin-greatest u =
     }
 
 -- ---- the tests
-pub unlock-step : (u : Usage) (n : ℤ) → unlocksNext u ≡ true → (v : Usage) × Step u n v (n -ℤ pos 1)
+unlock-step : (u : Usage) (n : ℤ) → unlocksNext u ≡ true → (v : Usage) × Step u n v (n -ℤ pos 1)
 unfolding unlocksNext
 unlock-step done n e = absurd (false≢true e)
 unlock-step (lock u) n e = absurd (false≢true e)
@@ -53,7 +53,7 @@ or-other : (a b : Bool) → b ≡ true → (a || b) ≡ true
 or-other true b e = refl
 or-other false b e = e
 
-pub step-unlocks : {u v : Usage} {n m : ℤ} → Step u n v m → m ≡ n -ℤ pos 1 → unlocksNext u ≡ true
+step-unlocks : {u v : Usage} {n m : ℤ} → Step u n v m → m ≡ n -ℤ pos 1 → unlocksNext u ≡ true
 unfolding unlocksNext
 step-unlocks (locks {u} {n}) e = absurd (omega (arith, one-more n, one-less n, ap up e, ap down e))
 step-unlocks unlocks e = refl
@@ -91,7 +91,7 @@ pub finished-means : FinishedMeans
 finished-means u n = (λ e v m s. finished-stops e s, stops-finished u n)
 
 -- a step lowers the count only where an ^L can be done, and then by one
-pub step-down : {u v : Usage} {n m : ℤ} → Step u n v m → (unlocksNext u ≡ true → pos 1 ≤ℤ n) → Le (pos 0) n → Le (pos 0) m
+step-down : {u v : Usage} {n m : ℤ} → Step u n v m → (unlocksNext u ≡ true → pos 1 ≤ℤ n) → Le (pos 0) n → Le (pos 0) m
 unfolding unlocksNext up down
 step-down (locks {u} {n}) h l = omega (arith, one-more n)
 step-down (unlocks {u} {n}) h l = omega (arith, le-up (pos 1) n (h refl), one-less n)

@@ -3,3 +3,4 @@ pub mod Counts
 pub mod Steps
 pub mod Agreement
 pub mod Letter
+pub mod Pairs

@@ -4,7 +4,7 @@ use native.Mathlib.Omega.{arith}
 use lib.Dec.{lit<}
 use borrow.Author.Tests.{eq-eqb, ne-eqb}
 use Rattle.usage_text.specs.Reading.{readInside, readShuffle, readChoice}
-use Rattle.usage_text.proofs.Exact.{shuffles, choices, chain-none, chain-some, part-asks, on-stop, on-gap, on-more, on-room, on-asks, sign-length, no-bracket, bracket-none, bracket-closed, bracket-open, not-empty, taken-low, takes-nought, takes-lock, takes-unlock, takes-open, takes-other, lock-falls, unlock-falls, open-falls}
+use Rattle.usage_text.proofs.Turns.{shuffles, choices, chain-none, chain-some, part-asks, on-stop, on-gap, on-more, on-room, on-asks, sign-length, no-bracket, bracket-none, bracket-closed, bracket-open, not-empty, taken-low, takes-nought, takes-lock, takes-unlock, takes-open, takes-other, lock-falls, unlock-falls, open-falls}
 use borrow.Author.Needs.{needs}
 use lib.ListN.{length}
 use Prim.Native.Nat.{ℕ, _<_, _+_, _*_}

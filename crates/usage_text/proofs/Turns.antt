@@ -32,12 +32,12 @@ pub record Given (x : Read) (n : ℕ) (w : Weight) : Type 0 where
   pub counted : length left ≡ n
   pub weighs : weightOf usage ≡ w
 
-pub taken-none : {t : Taken} (x : Read) → t ≡ takenOf x → t ≡ Nothing → x ≡ unread
+taken-none : {t : Taken} (x : Read) → t ≡ takenOf x → t ≡ Nothing → x ≡ unread
 unfolding takenOf
 taken-none unread p q = refl
 taken-none (read u r) p q = cc
 
-pub taken-some : {t : Taken} {n : ℕ} {w : Weight} (x : Read) → t ≡ takenOf x → t ≡ Weighed n w → Given x n w
+taken-some : {t : Taken} {n : ℕ} {w : Weight} (x : Read) → t ≡ takenOf x → t ≡ Weighed n w → Given x n w
 unfolding takenOf
 taken-some unread p q = let z : _≡_ {A = ℕ} 0 1 = cc in absurd (omega arith)
 taken-some {t} {n} {w} (read u r) p q = record { usage = u; left = r; was = refl; counted = cc; weighs = cc }
@@ -108,7 +108,7 @@ module _ (k : Joint) where
       rw (g .was) (rw (← left-is s r g e) a)
 
   -- what is left, and what was read, are within the text
-  pub part-room : {t : Taken} {n : ℕ} {w : Weight} (s r : List ℕ) → t ≡ takenOf (part s) → t ≡ Weighed n w → r ≡ restOf s n
+  part-room : {t : Taken} {n : ℕ} {w : Weight} (s r : List ℕ) → t ≡ takenOf (part s) → t ≡ Weighed n w → r ≡ restOf s n
       → (length r ≤ length s) × Low (length s - length r) w
   part-room {t} {n} {w} s r p q e =
       let g = taken-some (part s) p q in
@@ -169,7 +169,7 @@ module _ (k : Joint) where
       (higher-low (256 - length s) 256 w (omega arith) l, higher-low (length b - length r) 256 v (omega (arith, m, h)) (g .1))
 
 -- ---- brackets
-pub inside-deeper : (d : ℕ) (s : List ℕ) → (d ≡ 0 → ⊥) → readInside d s ≡ readChoice (readInside (d - 1)) s
+inside-deeper : (d : ℕ) (s : List ℕ) → (d ≡ 0 → ⊥) → readInside d s ≡ readChoice (readInside (d - 1)) s
 unfolding readInside
 inside-deeper zero s e = absurd (e refl)
 inside-deeper (suc d) s e = rw sub-one
@@ -210,12 +210,12 @@ not-empty [] b l e = absurd (omega arith)
 not-empty (c ∷ s) b l e = omega arith
 
 -- ---- prefixes
-pub heavier-lock : (x : Read) → heavier afterLock (takenOf x) ≡ takenOf (under lock x)
+heavier-lock : (x : Read) → heavier afterLock (takenOf x) ≡ takenOf (under lock x)
 unfolding takenOf weightOf
 heavier-lock unread = refl
 heavier-lock (read u r) = refl
 
-pub heavier-unlock : (x : Read) → heavier afterUnlock (takenOf x) ≡ takenOf (under unlock x)
+heavier-unlock : (x : Read) → heavier afterUnlock (takenOf x) ≡ takenOf (under unlock x)
 unfolding takenOf weightOf
 heavier-unlock unread = refl
 heavier-unlock (read u r) = refl
