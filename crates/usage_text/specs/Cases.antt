@@ -229,6 +229,7 @@ lengths =
     ∷ refusedBytes (again 128 "0*" ++ bytes "0") 40
     ∷ refusedBytes (again 128 "L." ++ bytes "0") 40
     ∷ refusedBytes (again 51 "L.^L." ++ bytes "0)") 40
+    ∷ refusedBytes (nested 128 (bytes "0")) 40
     ∷ refusedBytes (again 257 "(") 40
     ∷ refusedBytes (again 257 "0") 40
     ∷ refusedBytes (again 300 "0 ") 40
