@@ -1,8 +1,9 @@
 //! The proved verifier and machine for Rust callers.
 //!
-//! [`verify`] judges a bundle, [`digest`] runs a schedule on it. Both are
-//! proved to give what docs/LAW.md says, whatever the bytes are; this crate
-//! adds types for their numbers. What a bundle is, byte by byte, is there too.
+//! [`verify`] judges a bundle, [`digest`] runs a schedule on it, [`usage`]
+//! reads a usage. All are proved to give what docs/LAW.md says, whatever the
+//! bytes are; this crate adds types for their numbers. What a bundle is, byte
+//! by byte, is there too.
 //!
 //! ```
 //! # let folder = concat!(env!("CARGO_MANIFEST_DIR"), "/../../cases/");
@@ -19,8 +20,10 @@
 
 mod answer;
 mod calls;
+mod usage;
 mod verdict;
 
 pub use answer::Answer;
-pub use calls::{digest, verify};
+pub use calls::{digest, usage, verify};
+pub use usage::{Usage, UsageRefusal};
 pub use verdict::{Refusal, Verdict, Why};
