@@ -2,6 +2,7 @@
 
 use crate::law::{AsWritten, Law};
 use crate::reader::read_by;
+use std::fmt::{self, Display, Formatter};
 
 /// 0 and the numbers of a usage; or 40 to 43, and no numbers.
 #[derive(Clone, Copy, Debug, PartialEq, Eq)]
@@ -13,12 +14,24 @@ pub struct Answer {
 }
 
 impl Answer {
-    pub(crate) fn refused(number: u8) -> Answer {
+    pub fn refused(number: u8) -> Answer {
         Answer {
             number,
             dip: 0,
             end: 0,
             reliable: false,
+        }
+    }
+}
+
+/// The line that the tool prints.
+impl Display for Answer {
+    fn fmt(&self, to: &mut Formatter) -> fmt::Result {
+        let Answer { dip, end, .. } = self;
+        match (self.number, self.reliable) {
+            (0, true) => write!(to, "dip {dip} end {end} reliable yes"),
+            (0, false) => write!(to, "dip {dip} end {end} reliable no"),
+            (number, _) => write!(to, "refused {number}"),
         }
     }
 }

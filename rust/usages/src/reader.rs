@@ -24,6 +24,8 @@ pub struct Wrong {
     pub at: usize,
     /// What a usage has there.
     pub wanted: Wanted,
+    /// The most brackets open at once before it.
+    pub depth: usize,
 }
 
 /// What may come next.
@@ -67,18 +69,15 @@ pub fn read(text: &[u8]) -> Result<Reading, Wrong> {
 pub(crate) fn read_by<L: Law>(text: &[u8]) -> Result<Reading, Wrong> {
     let mut reader = Reader::default();
     for (at, &byte) in text.iter().enumerate() {
-        let wanted = reader.wanted();
-        reader.take::<L>(byte).ok_or(Wrong { at, wanted })?;
+        let wrong = reader.wrong(at);
+        reader.take::<L>(byte).ok_or(wrong)?;
     }
     match reader.wanted() {
         Wanted::SignOrEnd => Ok(Reading {
             depth: reader.depth,
             usage: reader.level.whole::<L>(),
         }),
-        wanted => Err(Wrong {
-            at: text.len(),
-            wanted,
-        }),
+        _ => Err(reader.wrong(text.len())),
     }
 }
 
@@ -116,6 +115,14 @@ impl Reader {
             After::Letter(_) => Wanted::Dot,
             After::Usage if self.outer.is_empty() => Wanted::SignOrEnd,
             After::Usage => Wanted::SignOrBracket,
+        }
+    }
+
+    fn wrong(&self, at: usize) -> Wrong {
+        Wrong {
+            at,
+            wanted: self.wanted(),
+            depth: self.depth,
         }
     }
 

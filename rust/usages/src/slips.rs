@@ -99,19 +99,9 @@ impl Law for WithoutEnd {
 
 /// Gives up at the seventeenth bracket.
 fn depth_first(text: &[u8]) -> Answer {
-    let sound = read(text).map_or_else(|wrong| wrong.at, |_| text.len());
-    let mut open = 0_usize;
-    let too_deep = text[..sound].iter().any(|byte| {
-        match byte {
-            b'(' => open += 1,
-            b')' => open -= 1,
-            _ => {}
-        }
-        open > DEEPEST
-    });
-    match text.len() <= LONGEST && too_deep {
-        true => Answer::refused(42),
-        false => answer(text),
+    match (answer(text), read(text)) {
+        (Answer { number: 41, .. }, Err(wrong)) if wrong.depth > DEEPEST => Answer::refused(42),
+        (given, _) => given,
     }
 }
 
