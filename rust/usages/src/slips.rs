@@ -5,8 +5,10 @@ use crate::law::{AsWritten, Law, DEEPEST, LONGEST};
 use crate::reader::read;
 use crate::usage::{Numbers, Usage};
 
-/// Each mistake in words, and what is answered by it.
-pub const SLIPS: [(&str, fn(&[u8]) -> Answer); 12] = [
+/// A mistake in words, and what is answered by it.
+pub type Slip = (&'static str, fn(&[u8]) -> Answer);
+
+pub const SLIPS: [Slip; 12] = [
     ("* binds looser than &", answer_by::<StarLooser>),
     ("257 bytes are read", answer_by::<Longer>),
     ("17 brackets are taken", answer_by::<Deeper>),
