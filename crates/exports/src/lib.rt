@@ -1,4 +1,6 @@
 // C calls on byte slices, for tests, benchmarks and Rust callers.
+mod texts;
+
 ghost use mathlib.Core.Path.{_≡_};
 ghost use Prim.Native.Nat.{_<_};
 ghost use Rattle.verifier.specs.Verdict.{verdictOf};

@@ -1,7 +1,7 @@
 //! The C calls of the proved library; the only unsafe lines are here.
 #![allow(unsafe_code)]
 
-use crate::Verdict;
+use crate::{Usage, UsageRefusal, Verdict};
 
 extern "C" {
     fn hveitmar_verdict(bundle: *const u8, length: usize) -> u64;
@@ -15,6 +15,7 @@ extern "C" {
         flags: usize,
     ) -> u64;
     fn hveitmar_record(bundle: *const u8, length: usize, class: u8) -> u64;
+    fn hveitmar_usage(text: *const u8, length: usize) -> u64;
 }
 
 /// Judges a bundle: accepted, or the first rule that it breaks.
@@ -98,4 +99,23 @@ pub fn record(bundle: &[u8], class: u8) -> &[u8] {
     let packed = unsafe { hveitmar_record(bundle.as_ptr(), bundle.len(), class) };
     let (offset, length) = (packed as u32 as usize, (packed >> 32) as usize);
     &bundle[offset..offset + length]
+}
+
+/// Reads a usage as the paper writes it, with `*` for its ⊗: its dip and end,
+/// and whether it is reliable.
+///
+/// ```
+/// use hveitmar::{usage, UsageRefusal};
+///
+/// let balanced = usage(b"L.L.(^L.0*^L.0)")?;
+/// assert_eq!(balanced.to_string(), "dip 0 end 0 reliable yes");
+/// let wrong = usage(b"L.^L.^L.0")?;
+/// assert_eq!((wrong.dip, wrong.end, wrong.reliable), (1, -1, false));
+/// assert_eq!(usage(b"L"), Err(UsageRefusal::Text));
+/// # Ok::<(), UsageRefusal>(())
+/// ```
+pub fn usage(text: &[u8]) -> Result<Usage, UsageRefusal> {
+    // SAFETY: as in `verify`.
+    let packed = unsafe { hveitmar_usage(text.as_ptr(), text.len()) };
+    Usage::unpacked(packed).unwrap_or_else(|| panic!("{packed:x} is no answer of a usage"))
 }
