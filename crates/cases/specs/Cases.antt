@@ -12,7 +12,7 @@ use Rattle.rules.specs.Rules.{loadRule, storeRule, enterRule, exitRule}
 use Rattle.verifier.specs.Verdict.{verdictOf}
 use Rattle.values.specs.Values.{incOf}
 
--- what a case asks for: a verdict, whether a rule ruleHolds, or an integer
+-- what a case asks for: a verdict, whether a rule holds, or an integer
 pub data Answer : Type 0 where
   judged : Verdict → Answer
   held : Bool → Answer
@@ -96,8 +96,8 @@ rowWith x y = record { variable = λ i. x; depth = 1; stack = λ j. y }
 abbrev pair : ℕ → ℕ → Entry
 pair d e = Ref 0 d e
 
--- A, B (the end is too small), C (the dip is); D: (1,-1) loaded as (0,0) and (1,-1) ruleHolds; E: as (1,-1) twice fails; F: store over (1,-1) fails;
--- G: enter from (1,-1) to (2,-2) ruleHolds (no handler, so the third row is not looked at); H: exit from (0,0) fails; J: inc of 2147483647 gives -2147483648
+-- A, B (the end is too small), C (the dip is); D: (1,-1) loaded as (0,0) and (1,-1) holds; E: as (1,-1) twice fails; F: store over (1,-1) fails;
+-- G: enter from (1,-1) to (2,-2) holds (no handler, so the third row is not looked at); H: exit from (0,0) fails; J: inc of 2147483647 gives -2147483648
 abbrev pub cases : List Case
 cases =
     record { given = judged (verdictOf caseA); wanted = judged (verdict 0 1 0) }

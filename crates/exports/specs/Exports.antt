@@ -1,11 +1,13 @@
 -- What the C calls give: a verdict as one number, and a run of the machine as one number.
 use mathlib.Core.List.{List}
-use mathlib.Core.Bool.{Bool}
+use mathlib.Core.Bool.{Bool, cond}
 use Prim.Native.Nat.{ℕ, zero, suc, _+_, _*_, _%_}
 use lib.ListN.{length}
-use lib.Dec.{leb}
+use lib.Dec.{leb, eqb}
 use Rattle.ground.specs.Bytes.{at}
+use Rattle.bundle.specs.Container.{classAt}
 use Rattle.structure.specs.declared.Verdict.{Verdict}
+use Rattle.structure.specs.Structure.{recordOf}
 use Rattle.machine.specs.declared.Stepped.{Stepped}
 use Rattle.machine.specs.Machine.{freshOf, stepOf}
 use Rattle.exports.specs.declared.Running.{Running}
@@ -14,9 +16,11 @@ use Rattle.exports.specs.declared.Running.{Running}
 abbrev pub packed : Verdict → ℕ
 packed v = v .number + 256 * v .class + 65536 * v .address + 4294967296 * v .why
 
--- a record's length (which is below 65,536), and in the low byte its byte i
-abbrev pub packedRecord : List ℕ → ℕ → ℕ
-packedRecord r i = 256 * (length r % 65536) + at r i
+-- a class's record: its length (which is below 65,536) in the upper half, its offset in the low one; 0 where it is empty
+unfoldable pub packedRecord : List ℕ → ℕ → ℕ
+packedRecord b c =
+    let n = length (recordOf b c) in
+    cond (eqb n 0) 0 (4294967296 * (n % 65536) + classAt b c .offset)
 
 -- a schedule byte: the low four bits are the thread, the top bit says that new fails
 abbrev pub who : ℕ → ℕ
@@ -35,11 +39,15 @@ begun f = record { state = f .state; digest = f .answer }
 abbrev pub advanced : ℕ → Stepped → Running
 advanced digest o = record { state = o .state; digest = mixed digest (o .answer) }
 
--- after the first n steps of a schedule from the fresh machine of b
-unfoldable pub running : List ℕ → List ℕ → ℕ → Running
-running b xs zero = begun (freshOf b)
-running b xs (suc n) =
-    advanced (running b xs n .digest) (stepOf b (running b xs n .state) (who (at xs n)) (failing (at xs n)))
+-- after the first n steps from the fresh machine of b: step i is of thread w i, and says f i of an allocation
+unfoldable pub running : List ℕ → (ℕ → ℕ) → (ℕ → Bool) → ℕ → Running
+running b w f zero = begun (freshOf b)
+running b w f (suc n) = advanced (running b w f n .digest) (stepOf b (running b w f n .state) (w n) (f n))
 
+-- a schedule, a byte a step
 unfoldable pub digestOf : List ℕ → List ℕ → ℕ
-digestOf b xs = running b xs (length xs) .digest
+digestOf b xs = running b (λ i. who (at xs i)) (λ i. failing (at xs i)) (length xs) .digest
+
+-- steps of any thread number, and 1 beside each where an allocation fails
+unfoldable pub answersOf : List ℕ → List ℕ → List ℕ → ℕ
+answersOf b ts fs = running b (at ts) (λ i. leb 1 (at fs i)) (length ts) .digest

@@ -1,10 +1,11 @@
 // C calls on byte slices, for tests, benchmarks and Rust callers.
+mod texts;
+
 ghost use mathlib.Core.Path.{_≡_};
 ghost use Prim.Native.Nat.{_<_};
 ghost use Rattle.verifier.specs.Verdict.{verdictOf};
 ghost use Rattle.machine.specs.Machine.{stepOf};
-ghost use Rattle.structure.specs.Structure.{recordOf};
-ghost use Rattle.exports.specs.Exports.{packed, packedRecord, who, failing, advanced, digestOf};
+ghost use Rattle.exports.specs.Exports.{packed, packedRecord, advanced, digestOf, answersOf};
 use state::State;
 use structure::Verdict;
 
@@ -23,12 +24,6 @@ fn pack(v: Verdict) -> u64
         + 4294967296 * (v.why as u64)
 }
 
-fn pack_record(r: &[u8], i: u16) -> u64
-    ensures { λ x. ⌜ x ≡ packedRecord (now (r .entry)) i ⌝ }
-{
-    256 * ((r.len() % 65536) as u64) + ground::byte(r, i as usize) as u64
-}
-
 // The verdict on a bundle: the number in the low byte, the class in the next, the address in the two above, why in the upper half.
 #[no_mangle]
 pub extern "C" fn hveitmar_verdict(b: &[u8]) -> u64
@@ -37,21 +32,24 @@ pub extern "C" fn hveitmar_verdict(b: &[u8]) -> u64
     pack(verifier::verify(b))
 }
 
-// The record of a class: its length (below 65,536), and in the low byte its byte i, 0 past its end.
+// The record of a class: its offset in the low half, its length in the upper; 0 where there is none.
 #[no_mangle]
-pub extern "C" fn hveitmar_record(b: &[u8], class: u8, i: u16) -> u64
-    ensures { λ r. ⌜ r ≡ packedRecord (recordOf (now (b .entry)) class) i ⌝ }
+pub extern "C" fn hveitmar_record(b: &[u8], class: u8) -> u64
+    ensures { λ r. ⌜ r ≡ packedRecord (now (b .entry)) class ⌝ }
 {
-    let r = structure::record(b, class);
-    pack_record(r, i)
+    let n = structure::record(b, class).len();
+    if n == 0 {
+        return 0;
+    }
+    4294967296 * ((n % 65536) as u64) + bundle::class_at(b, class).offset as u64
 }
 
-fn advance(b: &[u8], r: Running, x: u8) -> Running
+fn advance(b: &[u8], r: Running, thread: u8, fails: bool) -> Running
     requires { ⌜ r .digest < 4294967296 ⌝ }
-    ensures { λ o. ⌜ (o ≡ advanced (r .digest) (stepOf (now (b .entry)) (r .state) (who x) (failing x))) × (o .digest < 4294967296) ⌝ }
+    ensures { λ o. ⌜ (o ≡ advanced (r .digest) (stepOf (now (b .entry)) (r .state) thread fails)) × (o .digest < 4294967296) ⌝ }
 {
     let s = r.state;
-    let o = machine::step(b, s, x % 16, 128 <= x);
+    let o = machine::step(b, s, thread, fails);
     let next = o.state;
     Running {
         state: next,
@@ -71,7 +69,25 @@ pub extern "C" fn hveitmar_digest(b: &[u8], schedule: &[u8]) -> u64
         digest: f.answer as u64,
     };
     for i in 0..schedule.len() {
-        r = advance(b, r, schedule[i]);
+        let x = schedule[i];
+        r = advance(b, r, x % 16, 128 <= x);
+    }
+    r.digest
+}
+
+// The same of steps of any thread number: its byte, and beside it 1 where an allocation fails.
+#[no_mangle]
+pub extern "C" fn hveitmar_answers(b: &[u8], threads: &[u8], fails: &[u8]) -> u64
+    ensures { λ r. ⌜ r ≡ answersOf (now (b .entry)) (now (threads .entry)) (now (fails .entry)) ⌝ }
+{
+    let f = machine::fresh(b);
+    let s = f.state;
+    let mut r = Running {
+        state: s,
+        digest: f.answer as u64,
+    };
+    for i in 0..threads.len() {
+        r = advance(b, r, threads[i], 1 <= ground::byte(fails, i));
     }
     r.digest
 }

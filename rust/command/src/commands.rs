@@ -5,6 +5,7 @@ mod check;
 mod explain;
 mod show;
 mod trace;
+mod usage;
 
 use crate::report::Report;
 use std::ffi::{OsStr, OsString};
@@ -23,11 +24,12 @@ struct Command {
 }
 
 /// Every command, in the order in which the help lists them.
-const COMMANDS: [Command; 5] = [
+const COMMANDS: [Command; 6] = [
     check::COMMAND,
     show::COMMAND,
     explain::COMMAND,
     trace::COMMAND,
+    usage::COMMAND,
     build::COMMAND,
 ];
 
@@ -63,14 +65,14 @@ impl Command {
         (self.run)(words)
     }
 
-    fn usage(&self) -> String {
+    fn synopsis(&self) -> String {
         format!("hveitmar {} {}", self.name, self.words)
             .trim_end()
             .to_string()
     }
 
     fn full_help(&self) -> String {
-        format!("{}\n\n{}\n{}\n", self.usage(), self.summary, self.help)
+        format!("{}\n\n{}\n{}\n", self.synopsis(), self.summary, self.help)
     }
 
     /// One line on words that the command does not take.
@@ -99,7 +101,7 @@ fn overview() -> String {
         .iter()
         .map(|command| {
             vec![
-                format!("    {}", command.usage()),
+                format!("    {}", command.synopsis()),
                 command.summary.to_string(),
             ]
         })

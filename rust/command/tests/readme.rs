@@ -30,10 +30,12 @@ fn every_example_comes_out_as_it_stands() {
     let text = std::fs::read_to_string(root().join("README.md")).expect("README.md");
     let examples = examples(&text);
     for (words, shown) in &examples {
-        let words: Vec<&str> = words.split(' ').collect();
-        assert_eq!(tool(&words, &[]).out.trim(), shown, "{words:?}");
+        // Quotes are for the shell; standard error is written first.
+        let words: Vec<&str> = words.split(' ').map(|w| w.trim_matches('\'')).collect();
+        let ran = tool(&words, &[]);
+        assert_eq!((ran.err + &ran.out).trim(), shown, "{words:?}");
     }
-    for command in ["check", "show", "explain", "trace"] {
+    for command in ["check", "show", "explain", "trace", "usage"] {
         assert!(examples.iter().any(|(words, _)| words.starts_with(command)));
     }
 }

@@ -8,7 +8,6 @@ use generator::families::{self, typed};
 use generator::rng::Rng;
 use generator::schedule::schedule;
 use reference::machine::fresh;
-use reference::slips::Slips;
 use trace::{follow, Input, Turn};
 
 #[test]
@@ -57,7 +56,7 @@ fn traces_have_the_reference_s_answers() {
             start: None,
             schedule: &turns,
         };
-        let output = follow(&input, &Slips::NONE);
+        let output = follow(&input);
         let wanted: Vec<u8> = output.steps.iter().map(|step| step.answer).collect();
         assert_eq!(answers(&ran.out), wanted, "seed {seed}");
     }

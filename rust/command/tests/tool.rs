@@ -8,7 +8,7 @@ use std::path::PathBuf;
 
 const A: &str = "cases/a.bundle";
 const B: &str = "cases/b.bundle";
-const COMMANDS: [&str; 5] = ["check", "show", "explain", "trace", "build"];
+const COMMANDS: [&str; 6] = ["check", "show", "explain", "trace", "usage", "build"];
 
 /// A file of these bytes; its name is a test's own.
 fn file(name: &str, bytes: &[u8]) -> String {
@@ -136,9 +136,10 @@ fn every_command_has_help() {
         assert_eq!((ran.err.as_str(), ran.status), ("", Some(0)));
         assert!(overview.out.contains(&format!("hveitmar {command}")));
     }
-    assert!(tool(&["explain", "--help"], &[])
-        .out
-        .contains("tested, not proved"));
+    for command in ["explain", "usage"] {
+        let help = tool(&[command, "--help"], &[]).out;
+        assert!(help.contains("tested, not proved"));
+    }
 }
 
 #[test]

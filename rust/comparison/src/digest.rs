@@ -2,7 +2,7 @@
 //! them: equal numbers for equal answers.
 
 use reference::bundle::Bundle;
-use reference::machine::{answer, fresh, step, State};
+use reference::machine::{answer, fresh, step, step_in, State};
 use reference::slips::Slip;
 use trace::Turn;
 
@@ -26,6 +26,21 @@ pub fn of_slipped_run(bundle: &[u8], schedule: &[u8], slip: Slip) -> u64 {
         Ok(opened) => slip.step(opened, state, turn.thread(), turn.fails()),
         Err(_) => answer::BAD_BUNDLE,
     })
+}
+
+/// The reference's digest of turns that may name any thread number.
+pub fn of_turns(bundle: &[u8], turns: &[(u8, bool)]) -> u64 {
+    let opened = Bundle::open_with_code(bundle);
+    let (first, mut state) = fresh(bundle);
+    turns
+        .iter()
+        .fold(u64::from(first), |digest, &(thread, fails)| {
+            let answer = match &opened {
+                Ok(opened) => step_in(opened, &mut state, thread, fails),
+                Err(_) => answer::BAD_BUNDLE,
+            };
+            mixed(digest, answer)
+        })
 }
 
 fn follow(bundle: &[u8], schedule: &[u8], step: impl Fn(&mut State, Turn) -> u8) -> u64 {

@@ -3,9 +3,12 @@
 mod differences;
 pub mod digest;
 pub mod order;
+mod places;
 pub mod proved;
+pub mod records;
 pub mod runs;
 pub mod states;
+pub mod texts;
 pub mod traces;
 pub mod verdicts;
 pub mod whys;

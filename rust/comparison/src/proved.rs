@@ -1,8 +1,9 @@
-//! The proved code's verdict in the reference's numbers, to be held equal.
+//! The proved code's answers in the references' numbers, to be held equal.
 
 use reference::bundle::Verdict;
+use usages::Answer;
 
-pub use hveitmar::digest;
+pub use hveitmar::{answers, digest, record};
 
 /// The proved verifier's verdict.
 pub fn verdict(bundle: &[u8]) -> Verdict {
@@ -12,5 +13,18 @@ pub fn verdict(bundle: &[u8]) -> Verdict {
             let why = refusal.why().map_or(0, hveitmar::Why::number);
             Verdict::new(refusal.number(), refusal.class(), refusal.address()).because(why)
         }
+    }
+}
+
+/// The proved reader's answer.
+pub fn usage(text: &[u8]) -> Answer {
+    match hveitmar::usage(text) {
+        Ok(hveitmar::Usage { dip, end, reliable }) => Answer {
+            number: 0,
+            dip: i32::from(dip),
+            end: i32::from(end),
+            reliable,
+        },
+        Err(refusal) => Answer::refused(refusal.number()),
     }
 }

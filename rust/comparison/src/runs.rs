@@ -1,6 +1,6 @@
 //! Both machines on the same schedules from the fresh state: every answer.
 
-use crate::digest::mixed;
+use crate::digest::{mixed, of_turns};
 use crate::{proved, Answers, Differences, Part};
 use generator::families::{self, contending, typed};
 use generator::lively::Lively;
@@ -27,8 +27,10 @@ pub struct Runs {
     caught_new: u64,
     /// Threads started with more than three arguments.
     started_with_many: u64,
-    /// Steps of a number that no thread has.
+    /// Steps of a number that no thread has: all, and those that no
+    /// schedule's byte can name.
     beyond: u64,
+    far_beyond: u64,
     differences: Differences,
 }
 
@@ -81,6 +83,27 @@ fn run(seed: u64) -> (Vec<u8>, Lively, bool) {
 }
 
 impl Runs {
+    /// The same run, with all the numbers that no thread has.
+    fn compare_far(&mut self, seed: u64, bundle: &[u8], run: &Lively) {
+        let mut rng = Rng::new(seed);
+        let turns: Vec<(u8, bool)> = run
+            .schedule
+            .iter()
+            .map(|&byte| match Turn(byte).thread() {
+                live if usize::from(live) < THREADS => (live, Turn(byte).fails()),
+                _ => (rng.between(THREADS, 255) as u8, Turn(byte).fails()),
+            })
+            .collect();
+        let (proved, reference) = (proved::answers(bundle, &turns), of_turns(bundle, &turns));
+        if proved != reference {
+            let what = format!("turns seed {seed}: proved digest {proved}, reference {reference}");
+            let turns: Vec<u8> = turns.iter().map(|&(thread, _)| thread).collect();
+            self.differences.add(what, &[bundle, &turns]);
+        }
+        let far = turns.iter().filter(|&&(thread, _)| thread > Turn::HIGHEST);
+        self.far_beyond += far.count() as u64;
+    }
+
     fn count(&mut self, run: &Lively) {
         self.schedules += 1;
         self.steps += run.schedule.len() as u64;
@@ -108,6 +131,7 @@ impl Part for Runs {
                 format!("schedule seed {seed}: proved digest {proved}, reference {reference}");
             self.differences.add(what, &[&bundle, &run.schedule]);
         }
+        self.compare_far(seed, &bundle, &run);
         self.running += u64::from(first == answer::WENT_ON);
         self.count(&run);
         if contends {
@@ -129,7 +153,10 @@ impl Part for Runs {
             "  threads started with more than three arguments: {}",
             self.started_with_many
         );
-        println!("  steps of thread numbers 8 to 15: {}", self.beyond);
+        println!(
+            "  steps of thread numbers 8 to 15: {}, 16 to 255: {}",
+            self.beyond, self.far_beyond
+        );
         let Contention {
             schedules,
             steps,
@@ -154,6 +181,7 @@ impl Part for Runs {
                 self.started_with_many,
             ),
             ("a thread number above 7", self.beyond),
+            ("a thread number above 15", self.far_beyond),
             (
                 "waits, one step in twenty where threads want the same locks",
                 self.contention.enough(),

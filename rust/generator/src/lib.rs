@@ -1,4 +1,5 @@
-//! Bundles, states and schedules by seed: the same seed always gives the same.
+//! Bundles, states, schedules and texts of usages by seed: the same seed always
+//! gives the same.
 
 pub mod builder;
 pub mod families;
@@ -6,3 +7,4 @@ pub mod lively;
 pub mod marks;
 pub mod rng;
 pub mod schedule;
+pub mod texts;

@@ -1,13 +1,13 @@
 //! The generated inputs are varied enough to be worth comparing on.
 
-use generator::families::{self, typed};
+use generator::families::{self, contending, typed};
 use generator::lively::Lively;
 use generator::marks::MARKS;
 use generator::rng::Rng;
 use generator::schedule::{valid_state, Scheduler};
 use reference::belongs::belongs;
 use reference::bundle::Bundle;
-use reference::machine::fresh;
+use reference::machine::{answer, fresh};
 use reference::slips::Slip;
 use reference::verify::verify;
 
@@ -44,6 +44,22 @@ fn well_typed_bundles_are_accepted() {
         .filter(|&seed| verify(&typed::well_typed(&mut Rng::new(seed))).number == 0)
         .count();
     assert!(accepted >= 990, "{accepted}");
+}
+
+/// They are accepted, and one step in twenty waits at least.
+#[test]
+fn contending_threads_wait() {
+    let (mut steps, mut waits) = (0, 0);
+    for seed in 0..500 {
+        let mut rng = Rng::new(seed);
+        let b = contending::contending(&mut rng).lay_out();
+        assert_eq!(verify(&b).number, 0, "seed {seed}");
+        let scheduler = Scheduler::restless(seed);
+        let run = Lively::follow(&mut rng, &b, fresh(&b).1, scheduler, 200);
+        steps += run.answers.len();
+        waits += run.answers.iter().filter(|&&a| a == answer::HELD).count();
+    }
+    assert!(20 * waits >= steps, "{waits} of {steps}");
 }
 
 #[test]

@@ -1,7 +1,7 @@
 /* The proved verifier and machine for C callers: link target/staticlib/libexports.a, which
    `rt staticlib exports` writes. docs/LAW.md says what the numbers mean.
 
-   Both calls take any bytes, always come to an end, write into nothing and keep nothing. */
+   All calls take any bytes, always come to an end, write into nothing and keep nothing. */
 #ifndef HVEITMAR_H
 #define HVEITMAR_H
 
@@ -20,7 +20,20 @@ uint64_t hveitmar_verdict(const uint8_t *bundle, size_t length);
    one byte: the low four bits are the thread, the top bit says that an allocation fails. */
 uint64_t hveitmar_digest(const uint8_t *bundle, size_t length, const uint8_t *schedule, size_t steps);
 
-/* 0: accepted; 1 to 10: refused. */
+/* The same of steps of any thread number: threads[i], and fails[i] is 1 where an allocation
+   fails, else 0; past the end of fails it is 0. */
+uint64_t hveitmar_answers(const uint8_t *bundle, size_t length, const uint8_t *threads, size_t steps,
+                          const uint8_t *fails, size_t flags);
+
+/* A class's record: its offset in the low half, its length in the upper one. Both are 0 where
+   there is no such class, or the bundle draws one of the verdicts 1 to 6. */
+uint64_t hveitmar_record(const uint8_t *bundle, size_t length, uint8_t class_number);
+
+/* Reads the usage in these bytes, such as L.L.(^L.0*^L.0). hveitmar_number, hveitmar_dip,
+   hveitmar_end and hveitmar_reliable take the number apart. */
+uint64_t hveitmar_usage(const uint8_t *text, size_t length);
+
+/* Of a verdict 0: accepted; 1 to 10: refused. Of a usage 0: read; 40 to 43: refused. */
 static inline unsigned hveitmar_number(uint64_t verdict) { return verdict & 0xFF; }
 
 /* The class of a refusal; of an accepted bundle, how many classes it has. */
@@ -31,6 +44,15 @@ static inline unsigned hveitmar_address(uint64_t verdict) { return verdict >> 16
 
 /* Why a rule fails, 0 to 3; with every verdict but 9 it is 0. */
 static inline unsigned hveitmar_why(uint64_t verdict) { return (unsigned)(verdict >> 32); }
+
+/* How far below its present count a thread may go, 0 to 63; of a refusal 0. */
+static inline unsigned hveitmar_dip(uint64_t usage) { return usage >> 8 & 0xFF; }
+
+/* The highest net change at the end, -63 to 63; of a refusal 0. */
+static inline int hveitmar_end(uint64_t usage) { return (int)(usage >> 16 & 0xFF) - 64; }
+
+/* 1 if the usage is safe for an object that the thread does not hold, else 0. */
+static inline int hveitmar_reliable(uint64_t usage) { return usage >> 24 & 1; }
 
 #ifdef __cplusplus
 }

@@ -1,11 +1,21 @@
 //! The C calls of the proved library; the only unsafe lines are here.
 #![allow(unsafe_code)]
 
-use crate::Verdict;
+use crate::{Usage, UsageRefusal, Verdict};
 
 extern "C" {
     fn hveitmar_verdict(bundle: *const u8, length: usize) -> u64;
     fn hveitmar_digest(bundle: *const u8, length: usize, schedule: *const u8, steps: usize) -> u64;
+    fn hveitmar_answers(
+        bundle: *const u8,
+        length: usize,
+        threads: *const u8,
+        steps: usize,
+        fails: *const u8,
+        flags: usize,
+    ) -> u64;
+    fn hveitmar_record(bundle: *const u8, length: usize, class: u8) -> u64;
+    fn hveitmar_usage(text: *const u8, length: usize) -> u64;
 }
 
 /// Judges a bundle: accepted, or the first rule that it breaks.
@@ -45,4 +55,67 @@ pub fn digest(bundle: &[u8], schedule: &[u8]) -> u64 {
             schedule.len(),
         )
     }
+}
+
+/// The same digest of turns that may name any thread number.
+///
+/// A turn is a thread's number and whether an allocation fails.
+///
+/// ```
+/// # let folder = concat!(env!("CARGO_MANIFEST_DIR"), "/../../cases/");
+/// let bundle = std::fs::read(format!("{folder}a.bundle"))?;
+/// // The first step goes on (0), then there is no such thread (5).
+/// assert_eq!(hveitmar::answers(&bundle, &[(0, false), (255, false)]), 5);
+/// # Ok::<(), std::io::Error>(())
+/// ```
+pub fn answers(bundle: &[u8], turns: &[(u8, bool)]) -> u64 {
+    let threads: Vec<u8> = turns.iter().map(|&(thread, _)| thread).collect();
+    let fails: Vec<u8> = turns.iter().map(|&(_, fails)| u8::from(fails)).collect();
+    // SAFETY: as above, for all three slices.
+    unsafe {
+        hveitmar_answers(
+            bundle.as_ptr(),
+            bundle.len(),
+            threads.as_ptr(),
+            threads.len(),
+            fails.as_ptr(),
+            fails.len(),
+        )
+    }
+}
+
+/// The bytes of a class's record; none where there is no such class, or the
+/// bundle draws one of the verdicts 1 to 6.
+///
+/// ```
+/// # let folder = concat!(env!("CARGO_MANIFEST_DIR"), "/../../cases/");
+/// let bundle = std::fs::read(format!("{folder}a.bundle"))?;
+/// assert_eq!(hveitmar::record(&bundle, 0), &bundle[..117]);
+/// assert!(hveitmar::record(&bundle, 1).is_empty());
+/// # Ok::<(), std::io::Error>(())
+/// ```
+pub fn record(bundle: &[u8], class: u8) -> &[u8] {
+    // SAFETY: as above.
+    let packed = unsafe { hveitmar_record(bundle.as_ptr(), bundle.len(), class) };
+    let (offset, length) = (packed as u32 as usize, (packed >> 32) as usize);
+    &bundle[offset..offset + length]
+}
+
+/// Reads a usage as the paper writes it, with `*` for its ⊗: its dip and end,
+/// and whether it is reliable.
+///
+/// ```
+/// use hveitmar::{usage, UsageRefusal};
+///
+/// let balanced = usage(b"L.L.(^L.0*^L.0)")?;
+/// assert_eq!(balanced.to_string(), "dip 0 end 0 reliable yes");
+/// let wrong = usage(b"L.^L.^L.0")?;
+/// assert_eq!((wrong.dip, wrong.end, wrong.reliable), (1, -1, false));
+/// assert_eq!(usage(b"L"), Err(UsageRefusal::Text));
+/// # Ok::<(), UsageRefusal>(())
+/// ```
+pub fn usage(text: &[u8]) -> Result<Usage, UsageRefusal> {
+    // SAFETY: as in `verify`.
+    let packed = unsafe { hveitmar_usage(text.as_ptr(), text.len()) };
+    Usage::unpacked(packed).unwrap_or_else(|| panic!("{packed:x} is no answer of a usage"))
 }

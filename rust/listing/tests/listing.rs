@@ -6,7 +6,6 @@ use listing::Program;
 use reference::bundle::INT;
 use reference::entries::Entry;
 use reference::instructions::{Addr, Instr, Var};
-use reference::slips::Slips;
 use reference::verify::verify;
 
 fn bundle() -> Vec<u8> {
@@ -76,7 +75,7 @@ fn what_is_malformed_is_listed_too() {
 fn generated_bundles_are_listed() {
     for seed in 0..3_000 {
         let (family, bundle) = families::bundle(seed);
-        let verdict = verify(&bundle, &Slips::NONE);
+        let verdict = verify(&bundle);
         if (1..=6).contains(&verdict.number) {
             continue;
         }

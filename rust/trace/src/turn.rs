@@ -6,12 +6,15 @@
 pub struct Turn(pub u8);
 
 impl Turn {
+    /// The highest thread number that a turn can name.
+    pub const HIGHEST: u8 = 0x0F;
+
     pub fn new(thread: u8, fails: bool) -> Turn {
-        Turn(thread & 0x0F | if fails { 0x80 } else { 0 })
+        Turn(thread & Turn::HIGHEST | if fails { 0x80 } else { 0 })
     }
 
     pub fn thread(self) -> u8 {
-        self.0 & 0x0F
+        self.0 & Turn::HIGHEST
     }
 
     pub fn fails(self) -> bool {

@@ -3,14 +3,15 @@ use Prim.Native.Nat.{_≤_, _<_, _-_}
 use mathlib.Core.Path.{_≡_}
 use lib.ListN.{length}
 use native.Mathlib.Omega.{arith}
+use Rattle.ground.specs.Bytes.{at}
 use Rattle.exports.proofs.Turns.{running-none, running-more}
-use Rattle.exports.specs.Exports.{running, digestOf}
+use Rattle.exports.specs.Exports.{who, failing, running, digestOf}
 use borrow.Author.Needs.{needs}
 use Rattle.exports.proofs.hveitmar_digest.Statement.{statement}
 use Rattle.exports.proofs.hveitmar_digest.Tie as tie
 
 abbrev Inv-loop : tie.InvT-loop
-Inv-loop b schedule r₀ i₀ i-end r i = (i ≤ i-end) × (i-end ≡ length schedule) × (r ≡ running b schedule i) × (r .digest < 4294967296)
+Inv-loop b schedule r₀ i₀ i-end r i = (i ≤ i-end) × (i-end ≡ length schedule) × (r ≡ running b (λ j. who (at schedule j)) (λ j. failing (at schedule j)) i) × (r .digest < 4294967296)
 
 abbrev μ-loop : tie.MeasureT-loop
 μ-loop b schedule r₀ i₀ i-end r i = i-end - i
@@ -18,14 +19,14 @@ abbrev μ-loop : tie.MeasureT-loop
 fresh-requires : tie.Need-fresh-requires Inv-loop μ-loop
 fresh-requires c κs = search needs
 
-cast-t7 : tie.Need-cast-t7 Inv-loop μ-loop
-cast-t7 c = search needs
+cast-t8 : tie.Need-cast-t8 Inv-loop μ-loop
+cast-t8 c = search needs
 
 loop-holds : tie.Need-loop-holds Inv-loop μ-loop
 loop-holds c = (search needs, search needs, rw (running-none, ← c .before .before .fresh .ensures), search needs)
 
-shared-slice-read-advance : tie.Need-shared-slice-read-advance Inv-loop μ-loop
-shared-slice-read-advance c = search needs
+shared-slice-read-x : tie.Need-shared-slice-read-x Inv-loop μ-loop
+shared-slice-read-x c = search needs
 
 advance-requires : tie.Need-advance-requires Inv-loop μ-loop
 advance-requires c κs = search needs
@@ -51,9 +52,9 @@ hveitmar-digest-spec =
     Inv-loop
     μ-loop
     fresh-requires
-    cast-t7
+    cast-t8
     loop-holds
-    shared-slice-read-advance
+    shared-slice-read-x
     advance-requires
     add-i
     loop-less

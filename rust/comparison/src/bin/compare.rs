@@ -1,11 +1,14 @@
-//! Holds the proved verifier and machine against the reference.
+//! Holds the proved verifier, machine and reader of usages against the
+//! references.
 //!
 //! `compare [bundles] [schedules] [first seed]`; ends with status 1 if
 //! anything differs, could not be compared, or never came up.
 
 use comparison::order::Order;
+use comparison::records::Records;
 use comparison::runs::Runs;
 use comparison::states::States;
+use comparison::texts::Texts;
 use comparison::traces::Traces;
 use comparison::verdicts::Verdicts;
 use comparison::Part;
@@ -14,6 +17,10 @@ use std::process::ExitCode;
 
 /// One bundle with two breaches for so many others.
 const BUNDLES_A_PAIR: u64 = 10;
+/// One bundle whose records are looked up for so many others.
+const BUNDLES_A_RECORD: u64 = 10;
+/// One text of a usage for so many bundles.
+const BUNDLES_A_TEXT: u64 = 5;
 /// One trace input for so many schedules: each starts a process.
 const SCHEDULES_A_TRACE: u64 = 10;
 /// One run compared state by state for so many: each step starts a process.
@@ -43,12 +50,20 @@ fn compare(bundles: u64, schedules: u64, first: u64) -> Result<(u64, u64), Error
     // at once.
     let traces = Traces::with_program()?;
     let states = States::with_program()?;
-    let parts: [(Box<dyn Part>, u64); 5] = [
+    let parts: [(Box<dyn Part>, u64); 7] = [
         (Box::new(Verdicts::around_case_a()), bundles),
         (Box::<Order>::default(), bundles.div_ceil(BUNDLES_A_PAIR)),
+        (
+            Box::<Records>::default(),
+            bundles.div_ceil(BUNDLES_A_RECORD),
+        ),
         (Box::<Runs>::default(), schedules),
         (Box::new(traces), schedules.div_ceil(SCHEDULES_A_TRACE)),
         (Box::new(states), schedules.div_ceil(SCHEDULES_A_STATED_RUN)),
+        (
+            Box::new(Texts::of_small_usages()),
+            bundles.div_ceil(BUNDLES_A_TEXT),
+        ),
     ];
     let (mut differences, mut missing) = (0, 0);
     for (mut part, inputs) in parts {

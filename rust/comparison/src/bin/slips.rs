@@ -3,28 +3,39 @@
 //! For a verifier's slip: a bundle that only the slipped verifier accepts,
 //! and a schedule on which the true machine then draws the fault that the
 //! slip leads to. For a machine's slip: an accepted bundle and a schedule on
-//! which the slipped machine answers otherwise than the true one.
+//! which the slipped machine answers otherwise than the true one. For a slip
+//! of the reader of usages: a text that it answers otherwise.
 
 use generator::families::typed;
 use generator::rng::Rng;
 use generator::schedule::Scheduler;
+use generator::texts::text;
 use reference::bundle::Bundle;
 use reference::machine::{answer, fresh, step_in};
 use reference::slips::Slip;
 use reference::verify::verify;
 use std::process::ExitCode;
+use usages::slips::SLIPS;
+use usages::{answer as answer_of, Answer};
 
 const BUNDLES: u64 = 20_000;
 const SCHEDULES: u64 = 20;
 const STEPS: usize = 400;
+const TEXTS: u64 = 20_000;
 
 fn main() -> ExitCode {
     let verifier = Slip::VERIFIER.map(|slip| (slip, (0..BUNDLES).find_map(|s| caught(slip, s))));
     let machine = Slip::MACHINE.map(|slip| (slip, (0..BUNDLES).find_map(|s| differs(slip, s))));
+    let named = |(slip, found)| (format!("{slip:?}"), found);
+    let reader = SLIPS.map(|(name, slipped)| {
+        let found = (0..TEXTS).find_map(|seed| misread(slipped, seed));
+        (name.to_string(), found)
+    });
     let mut all_found = true;
-    for (slip, found) in verifier.into_iter().chain(machine) {
+    let all = verifier.into_iter().chain(machine).map(named);
+    for (slip, found) in all.chain(reader) {
         all_found &= found.is_some();
-        println!("{slip:?}: {}", found.unwrap_or("not found".to_string()));
+        println!("{slip}: {}", found.unwrap_or("not found".to_string()));
     }
     if all_found {
         ExitCode::SUCCESS
@@ -89,4 +100,12 @@ fn difference(b: &[u8], slip: Slip, seed: u64) -> Option<(usize, u8, u8)> {
             (truth != other).then_some((number, other, truth))
         })
         .filter(|&(_, other, _)| other != answer::BAD_STATE)
+}
+
+/// A text of which the slipped reader says something else.
+fn misread(slipped: fn(&[u8]) -> Answer, seed: u64) -> Option<String> {
+    let (_, text) = text(seed);
+    let (other, truth) = (slipped(&text), answer_of(&text));
+    let text = text.escape_ascii();
+    (other != truth).then(|| format!("seed {seed} {text} is \"{other}\" for \"{truth}\""))
 }

@@ -2,7 +2,7 @@
 
 use hveitmar::Answer;
 use listing::{Instruction, Opcode, Program};
-use reference::machine::{State, Thread, Value, OBJECTS, THROWN_BY_NEW};
+use reference::state::{State, Thread, Value, OBJECTS, THROWN_BY_NEW};
 use trace::Turn;
 
 /// What each column of the table holds.

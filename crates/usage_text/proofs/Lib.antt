@@ -1,0 +1,14 @@
+pub mod Heads
+pub mod Sound
+pub mod Fuel
+pub mod Complete
+pub mod Depth
+pub mod Grammar
+pub mod Weights
+pub mod Bounds
+pub mod Parts
+pub mod Turns
+pub mod Answers
+pub mod Meaning
+pub mod Writing
+pub mod Cases

@@ -1,0 +1,10 @@
+pub mod Signs
+pub mod Grammar
+pub mod Reading
+pub mod Weights
+pub mod Answer
+pub mod Writing
+pub mod Exact
+pub mod Meaning
+pub mod Quoted
+pub mod Cases

@@ -1,0 +1,6 @@
+pub mod Whole
+pub mod Bounds
+pub mod Ways
+pub mod Reliability
+pub mod Letter
+pub mod Pairs
