@@ -61,7 +61,7 @@ fn rows(b: &mut Buffer, at: u32, vars: u32, limit: u32, n: u32) -> usize {
     p
 }
 
-// In the bundle `bench` the code of class c stands at 120c + 9 and its rows of 25 bytes from 120c + 25; address l of class c is written 10c + l.
+// In the bundles `bench` and `yard` the code of class c stands at 120c + 9 and its rows of 25 bytes from 120c + 25; address l of class c is written 10c + l.
 fn bench_code(l: u32) -> usize {
     (120 * (l % 256 / 10) + 4 * (l % 10) + 5) as usize
 }

@@ -6,6 +6,7 @@ use values::Slot;
 
 fn same_value(a: Slot, b: Slot) -> bool {
     (values::is_int(a) == values::is_int(b))
+        & (values::is_null(a) == values::is_null(b))
         & (values::bits_of(a) == values::bits_of(b))
         & (values::object_of(a) == values::object_of(b))
 }
@@ -49,11 +50,23 @@ fn same_counts(a: [u16; 256], b: [u16; 256]) -> bool {
     true
 }
 
+fn same_fields(a: [Slot; 128], b: [Slot; 128]) -> bool {
+    for i in 0..128usize {
+        if !same_value(a[i], b[i]) {
+            return false;
+        }
+    }
+    true
+}
+
 pub(crate) fn same_state(a: State, b: State) -> bool {
     let a_counts = a.counts;
     let b_counts = b.counts;
+    let a_fields = a.fields;
+    let b_fields = b.fields;
     same_threads(a, b)
         & same_counts(a_counts, b_counts)
+        & same_fields(a_fields, b_fields)
         & (a.objects == b.objects)
         & words::same(&a.classes, &b.classes)
 }

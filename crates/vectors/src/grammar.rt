@@ -1,16 +1,17 @@
 // The form of every step, and a step read by its form. A form is a capital, which tells what the step does, and a letter for each number:
 //
-//   b up to 255, w up to 65,535, t up to 7, p up to 15, n up to 31, o an opcode or its name, d an end, i an integer of 32 bits;
+//   b up to 255, w up to 65,535, f up to 3, t up to 7, p up to 15, n up to 31, o an opcode or its name, d an end, i an integer of 32 bits;
 //   h is w as its two bytes; c and a are b and h that may be left out at the end of a step, and are 0 then;
 //   a digit is that number itself, and a capital its own byte; e is an entry, v a value: a word and its numbers, which end the step.
 //
 // Capitals, with their numbers in order; `build`, `states`, `runs` and `setting` have what each does:
 //
 //   W bytes: place, how many times, the bytes; E the same, and they end the bundle; R rows: place, V, K, how many;
-//   I an instruction of `bench`: address, the bytes; K a part of its row: address, which entry, place in the row, the bytes;
+//   I an instruction of `bench` or `yard`: address, the bytes; K a part of its row: address, which entry, place in the row, the bytes;
 //   D the same of the stack: the depth then ends with it;
 //   T a thread: number, live, class, address, depth; V variables and P stack places: thread, which, one (1) or all (0), value;
-//   N a count, O the number of objects, C the class of an object; M steps: thread, new fails, how many; F the fresh machine;
+//   N a count, O the number of objects, C the class of an object, H a field place: object, field, value;
+//   M steps: thread, new fails, how many; F the fresh machine;
 //   and what is wanted: S a verdict on the structure, J the verifier's, Q a record, G what the machine gives.
 use crate::numbers;
 use crate::numbers::NONE;
@@ -101,11 +102,11 @@ fn by_table(r: Step, s: &[u8], table: &[u8]) -> Step {
     by_form(past(r, w, 0 < form.len()), s, form)
 }
 
-// An entry is four bytes; a value is 0 and an integer, or 1 and an object.
+// An entry is four bytes; a value is 0 and an integer, 1 and an object, or 2 and 0: null.
 fn by_last(r: Step, s: &[u8], letter: u8) -> Step {
     match letter {
-        b'e' => by_table(r, s, b"int 1000\ntop 2000\nref 3bbd\nraw bbbb\n"),
-        b'v' => by_table(r, s, b"int 0i\nref 1b\n"),
+        b'e' => by_table(r, s, b"int 1000\ntop 2000\nref 3bbd\nnull 4b00\nraw bbbb\n"),
+        b'v' => by_table(r, s, b"int 0i\nref 1b\nnull 20\n"),
         _ => r,
     }
 }
@@ -147,6 +148,7 @@ places Pt00v
 count Ntnw
 objects Ob
 class Cnb
+field Hnfv
 step Mb01
 fails Mb11
 steps Mb0w

@@ -75,7 +75,7 @@ fn integer(w: &[u8]) -> u64 {
 // An instruction's name stands for its number, which is its place here; any other opcode is written as a number.
 fn opcode(w: &[u8]) -> u64 {
     let place = words::place_in(
-        b"inc pop push0 load store if enter exit new start athrow return",
+        b"inc pop push0 load store if enter exit new start athrow return getfield putfield",
         w,
     );
     if place == 0 {
@@ -87,6 +87,7 @@ fn opcode(w: &[u8]) -> u64 {
 // What a word is where a form has such a letter; an end is 64 more than it is, as it is stored.
 pub(crate) fn number(letter: u8, w: &[u8]) -> u64 {
     match letter {
+        b'f' => within(decimal(w), 3),
         b't' => within(decimal(w), 7),
         b'p' => within(decimal(w), 15),
         b'n' => within(decimal(w), 31),

@@ -24,15 +24,17 @@ pub(crate) fn blank() -> State {
         counts: [0u16; 256],
         objects: 1,
         classes: [0u8; 32],
+        fields: [zero; 128],
     }
 }
 
-// A value is 0 and an integer, or 1 and an object.
+// A value is 0 and an integer, 1 and an object, or 2: null.
 fn value(kind: u32, n: u32) -> Slot {
-    if kind == 1 {
-        return values::ref_slot(byte(n));
+    match kind {
+        1 => values::ref_slot(byte(n)),
+        2 => values::null_slot(),
+        _ => values::int_slot(n),
     }
-    values::int_slot(n)
 }
 
 // One of the places, or all, as a step's numbers from the second on say.
@@ -95,6 +97,7 @@ pub(crate) fn put(s: State, of: u8, v: [u32; 16]) -> State {
             next.classes[o] = second;
             next
         }
+        b'H' => state::put_field(s, i, second, value(v[2], v[3])),
         _ => state::put_thread(s, i, changed(state::thread(s, i), of, v)),
     }
 }
