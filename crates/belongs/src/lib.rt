@@ -2,7 +2,7 @@
 ghost use mathlib.Core.Path.{_≡_};
 ghost use mathlib.Core.Bool.{cond};
 ghost use Rattle.bundle.specs.Program.{programOf};
-ghost use Rattle.belongs.specs.Belongs.{placesRefer, placedOk, liveOk, threadOk, firstOk, objectsOk, fieldsRefer, fieldsOk, countOk, threadCountsOk, holdsAt, soleHolder, soleHolders, stateOk};
+ghost use Rattle.belongs.specs.Belongs.{placesRefer, placedOk, liveOk, threadOk, firstOk, objectsOk, fieldsOk, countOk, threadCountsOk, holdsAt, soleHolder, soleHolders, stateOk};
 use bundle::Class;
 use state::State;
 use threads::Thread;
@@ -91,32 +91,22 @@ fn objects_ok(b: &[u8], objects: u8, classes: &[u8]) -> bool
     true
 }
 
-// Past the last place there is integer 0.
-fn fields_refer(b: &[u8], objects: u8, classes: &[u8], fields: [Slot; 128], o: u8) -> bool
-    ensures { λ r. ⌜ r ≡ fieldsRefer (programOf (now (b .entry))) objects (now (classes .entry)) fields o ⌝ }
-{
-    let n = bundle::class_at(b, ground::byte(classes, o as usize)).fields;
-    let mut f: u8 = 0;
-    while f < n {
-        let k = (o as usize) * 4 + (f as usize);
-        if 128 <= k {
-            return true;
-        }
-        if !values::refers(objects, fields[k]) {
-            return false;
-        }
-        f += 1;
-    }
-    true
-}
-
+// Both loops stand here, since a function for one object's fields would copy them all; past the last place there is integer 0.
 fn fields_ok(b: &[u8], objects: u8, classes: &[u8], fields: [Slot; 128]) -> bool
     ensures { λ r. ⌜ r ≡ fieldsOk (programOf (now (b .entry))) objects (now (classes .entry)) fields ⌝ }
 {
     let mut o: u8 = 0;
     while o < objects {
-        if !fields_refer(b, objects, classes, fields, o) {
-            return false;
+        let n = bundle::class_at(b, ground::byte(classes, o as usize)).fields;
+        let mut f: u8 = 0;
+        while f < n {
+            let k = (o as usize) * 4 + (f as usize);
+            if k < 128 {
+                if !values::refers(objects, fields[k]) {
+                    return false;
+                }
+            }
+            f += 1;
         }
         o += 1;
     }

@@ -8,7 +8,7 @@ use values::Slot;
 
 const MOST_STEPS: usize = 4096;
 
-// A place: a kind byte and four bytes.
+// A place: a kind byte (0 integer, 1 reference, 2 null) and four bytes.
 const PLACE: usize = 5;
 
 // A thread: live, class, address (2), depth, sixteen variables, sixteen stack places.
@@ -18,14 +18,16 @@ const PLACES_AT: usize = 5;
 
 const STACK_AT: usize = 85;
 
-// A state: eight threads, 256 counts of two bytes, the number of objects, 32 class numbers.
+// A state: eight threads, 256 counts of two bytes, the number of objects, 32 class numbers, 128 field places (object by object, four each).
 const COUNTS_AT: usize = 1320;
 
 const OBJECTS_AT: usize = 1832;
 
 const CLASSES_AT: usize = 1833;
 
-const STATE: usize = 1865;
+const FIELDS_AT: usize = 1865;
+
+const STATE: usize = 2505;
 
 // The part from a up to e; where there is none such, an empty one.
 fn part(s: &[u8], a: usize, e: usize) -> &[u8] {
@@ -65,20 +67,19 @@ pub(crate) fn schedule(s: &[u8]) -> &[u8] {
     part(s, schedule_at(s), s.len())
 }
 
+// A reference is its low byte, and null has none.
 fn is_place(g: &[u8], at: usize) -> bool
-    requires { ⌜ at < 2000 ⌝ }
+    requires { ⌜ at < 2505 ⌝ }
 {
+    let high = ground::word(g, at + 1);
+    let low = ground::word(g, at + 3);
     let kind = ground::byte(g, at);
-    if kind == 0 {
-        return true;
+    match kind {
+        0 => true,
+        1 => (high == 0) & (low < 256),
+        2 => (high == 0) & (low == 0),
+        _ => false,
     }
-    if kind != 1 {
-        return false;
-    }
-    if ground::word(g, at + 1) != 0 {
-        return false;
-    }
-    ground::byte(g, at + 3) == 0
 }
 
 fn is_thread(g: &[u8], at: usize) -> bool
@@ -95,13 +96,22 @@ fn is_thread(g: &[u8], at: usize) -> bool
     true
 }
 
+fn are_fields(g: &[u8]) -> bool {
+    for i in 0..128usize {
+        if !is_place(g, FIELDS_AT + i * PLACE) {
+            return false;
+        }
+    }
+    true
+}
+
 fn is_state(g: &[u8]) -> bool {
     for i in 0..8usize {
         if !is_thread(g, i * THREAD) {
             return false;
         }
     }
-    true
+    are_fields(g)
 }
 
 pub(crate) fn is_input(s: &[u8]) -> bool {
@@ -130,10 +140,14 @@ fn join(hi: u16, lo: u16) -> u32 {
 }
 
 fn place(g: &[u8], at: usize) -> Slot
-    requires { ⌜ at < 2000 ⌝ }
+    requires { ⌜ at < 2505 ⌝ }
 {
-    if ground::byte(g, at) == 1 {
+    let kind = ground::byte(g, at);
+    if kind == 1 {
         return values::ref_slot(ground::byte(g, at + 4));
+    }
+    if kind == 2 {
+        return values::null_slot();
     }
     values::int_slot(join(ground::word(g, at + 1), ground::word(g, at + 3)))
 }
@@ -191,15 +205,27 @@ fn classes(g: &[u8]) -> [u8; 32] {
     a
 }
 
+fn fields(g: &[u8]) -> [Slot; 128] {
+    let z = values::zero_slot();
+    let mut a = [z; 128];
+    for i in 0..128usize {
+        let x = place(g, FIELDS_AT + i * PLACE);
+        a[i] = x;
+    }
+    a
+}
+
 pub(crate) fn state(s: &[u8]) -> State {
     let g = given_part(s);
     let all = threads(g);
     let held = counts(g);
     let made = classes(g);
+    let kept = fields(g);
     State {
         threads: all,
         counts: held,
         objects: ground::byte(g, OBJECTS_AT),
         classes: made,
+        fields: kept,
     }
 }

@@ -46,6 +46,9 @@ fn put_place(out: &mut [u8], at: usize, x: Slot) -> usize {
     if values::is_int(x) {
         return put_integer(out, at, values::bits_of(x));
     }
+    if values::is_null(x) {
+        return put_all(out, at, b" null");
+    }
     put_field(out, at, b" r", values::object_of(x) as u64)
 }
 
@@ -118,6 +121,21 @@ fn objects_line(out: &mut [u8], at: usize, objects: u8, classes: &[u8]) -> usize
     put(out, r, b'\n')
 }
 
+fn put_fields(out: &mut [u8], at: usize, a: [Slot; 128]) -> usize {
+    let mut p = at;
+    for i in 0..128usize {
+        let x = a[i];
+        p = put_place(out, p, x);
+    }
+    p
+}
+
+fn fields_line(out: &mut [u8], at: usize, a: [Slot; 128]) -> usize {
+    let p = put_all(out, at, b"fields");
+    let q = put_fields(out, p, a);
+    put(out, q, b'\n')
+}
+
 pub(crate) fn fresh_line(out: &mut [u8], answer: u8) -> usize {
     let p = put_field(out, 0, b"fresh ", answer as u64);
     put(out, p, b'\n')
@@ -149,7 +167,9 @@ pub(crate) fn state_lines(out: &mut [u8], at: usize, s: State) -> usize {
     for i in 0..8u8 {
         p = thread_line(out, p, i, state::thread(s, i), &s.counts);
     }
-    objects_line(out, p, s.objects, &s.classes)
+    p = objects_line(out, p, s.objects, &s.classes);
+    let fields = s.fields;
+    fields_line(out, p, fields)
 }
 
 pub(crate) fn drain(out: &[u8], at: usize) {

@@ -31,6 +31,9 @@ loop-less c = search needs
 loop-again : tie.Need-loop-again Inv-loop μ-loop
 loop-again c = search needs
 
+are-fields-requires : tie.Need-are-fields-requires Inv-loop μ-loop
+are-fields-requires c κs = search needs
+
 returns-2 : tie.Need-returns-2 Inv-loop μ-loop
 returns-2 c = search needs
 
@@ -47,4 +50,5 @@ is-state-spec =
     add-i
     loop-less
     loop-again
+    are-fields-requires
     returns-2)

@@ -33,6 +33,9 @@ loop-again c = search needs
 objects-line-requires : tie.Need-objects-line-requires Inv-loop μ-loop
 objects-line-requires c κs = search needs
 
+fields-line-requires : tie.Need-fields-line-requires Inv-loop μ-loop
+fields-line-requires c κs = search needs
+
 same-length : tie.Need-same-length Inv-loop μ-loop
 same-length c = search needs
 
@@ -52,5 +55,6 @@ state-lines-spec =
     loop-less
     loop-again
     objects-line-requires
+    fields-line-requires
     same-length
     returns)

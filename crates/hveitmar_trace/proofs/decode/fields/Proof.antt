@@ -1,0 +1,64 @@
+-- `hveitmar_trace::decode::fields` is safe and ends: the loop counts up to its bound, and the array keeps its length.
+use Prim.Native.Nat.{_≤_, _-_}
+use mathlib.Core.Path.{_≡_}
+use lib.ListN.{length}
+use borrow.Author.Needs.{needs}
+use Rattle.hveitmar_trace.proofs.decode.fields.Statement.{statement}
+use Rattle.hveitmar_trace.proofs.decode.fields.Tie as tie
+
+abbrev Inv-loop : tie.InvT-loop
+Inv-loop g a₀ i₀ a i = (i ≤ 128) × (length a ≡ 128)
+
+abbrev μ-loop : tie.MeasureT-loop
+μ-loop g a₀ i₀ a i = 128 - i
+
+zero-slot-requires : tie.Need-zero-slot-requires Inv-loop μ-loop
+zero-slot-requires c κs = search needs
+
+loop-holds : tie.Need-loop-holds Inv-loop μ-loop
+loop-holds c = search needs
+
+mul-place : tie.Need-mul-place Inv-loop μ-loop
+mul-place c = search needs
+
+add-place : tie.Need-add-place Inv-loop μ-loop
+add-place c = search needs
+
+place-requires : tie.Need-place-requires Inv-loop μ-loop
+place-requires c κs = search needs
+
+mul-a : tie.Need-mul-a Inv-loop μ-loop
+mul-a c = search needs
+
+array-set-from-a : tie.Need-array-set-from-a Inv-loop μ-loop
+array-set-from-a c = search needs
+
+add-i : tie.Need-add-i Inv-loop μ-loop
+add-i c = search needs
+
+loop-less : tie.Need-loop-less Inv-loop μ-loop
+loop-less c = search needs
+
+loop-again : tie.Need-loop-again Inv-loop μ-loop
+loop-again c = search needs
+
+returns : tie.Need-returns Inv-loop μ-loop
+returns c = search needs
+
+pub fields-spec : {M : Type 1} → statement M
+fields-spec =
+    tie.close
+    (tie.spec
+    Inv-loop
+    μ-loop
+    zero-slot-requires
+    loop-holds
+    mul-place
+    add-place
+    place-requires
+    mul-a
+    array-set-from-a
+    add-i
+    loop-less
+    loop-again
+    returns)
