@@ -56,6 +56,10 @@ fn the_first_wrong_byte_is_told() {
         ("L", "byte 2 is missing, where . may stand"),
         ("L.(0", "byte 5 is missing, where *, & or ) may stand"),
         ("L.(L.0*^l.0)", "byte 9 is l, where L may stand"),
+        (
+            "0 & 0",
+            "byte 2 is a blank, where *, & or the end may stand",
+        ),
         ("0\n", "byte 2 is \\n, where *, & or the end may stand"),
         (
             "0\u{2297}0",

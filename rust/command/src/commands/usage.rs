@@ -59,6 +59,7 @@ fn bytes(text: &OsStr) -> Result<Vec<u8>, String> {
 fn tell_place(text: &[u8]) {
     if let Err(Wrong { at, wanted, .. }) = usages::read(text) {
         let there = match text.get(at) {
+            Some(b' ') => "a blank".to_string(),
             Some(byte) => byte.escape_ascii().to_string(),
             None => "missing".to_string(),
         };
