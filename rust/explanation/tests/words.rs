@@ -178,7 +178,7 @@ fn what_is_asked() {
     tells(&pop(row(TOP, &[INT]), row(TOP, &[INT])), 9, &deep);
     let taken = ["Variable 0 is Top, and a reference is wanted", "answer 13"];
     tells(
-        &ruled(Instr::Enter(V), row(TOP, &[]), row(TOP, &[])),
+        &ruled(Instr::Enter(V, None), row(TOP, &[]), row(TOP, &[])),
         9,
         &taken,
     );
@@ -195,7 +195,11 @@ fn what_does_not_fit() {
         9,
         &[twice, "The path 2 to 3 would allow 1 release too many."],
     );
-    let enter = ruled(Instr::Enter(V), row(held, &[]), row(reference(2, 0), &[]));
+    let enter = ruled(
+        Instr::Enter(V, None),
+        row(held, &[]),
+        row(reference(2, 0), &[]),
+    );
     let taken = "with the lock taken (2,-2), and row 3 claims C0(2,0): the end is -2 and must be \
                  at least 0, so it is 2 too small.";
     tells(
