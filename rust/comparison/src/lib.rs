@@ -4,6 +4,7 @@ mod differences;
 pub mod digest;
 pub mod order;
 pub mod proved;
+mod refused;
 pub mod runs;
 pub mod states;
 pub mod traces;
