@@ -61,15 +61,15 @@ impl Family {
         (Family::Bytes, 6),
         (Family::Structured, 6),
         (Family::StructuredDamaged, 6),
-        (Family::Typed, 21),
-        (Family::TypedDamaged, 17),
+        (Family::Typed, 20),
+        (Family::TypedDamaged, 15),
         (Family::Faulty, 8),
-        (Family::Probe, 14),
+        (Family::Probe, 12),
         (Family::Edge, 7),
         (Family::Overlapping, 3),
         (Family::Contending, 1),
         (Family::Sharing, 1),
-        (Family::Tempting, 10),
+        (Family::Tempting, 15),
     ];
 
     fn choose(rng: &mut Rng) -> Family {

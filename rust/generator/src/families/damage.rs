@@ -11,12 +11,12 @@ use reference::instructions::names_address;
 pub fn damage(rng: &mut Rng, mut b: Vec<u8>) -> Vec<u8> {
     let all = records(&b);
     let record = &all[rng.below(all.len())];
-    match rng.below(38) {
+    match rng.below(39) {
         0 => flip(rng, &mut b),
         1 | 2 => trailer(rng, &mut b),
         3 => resize(rng, &mut b),
         4..=5 => directory(rng, &mut b, record),
-        6 | 30 => move_record(rng, &mut b, record),
+        6 | 30 | 38 => move_record(rng, &mut b, record),
         7 | 31 | 32 => descriptor(rng, &mut b, &all),
         8 | 9 => raw_instruction(rng, &mut b, record),
         10..=12 => other_instruction(rng, &mut b, record),

@@ -45,10 +45,11 @@ impl Interface {
     }
 
     /// The same with fields of all that there may be: integers, the class
-    /// itself, what is thrown, and main's class.
+    /// itself, what is thrown, and another class.
     pub fn with_rich_fields(self) -> Interface {
-        let of = |class| vec![INT, class, self.exception, 0];
-        let fields = (0..self.signatures.len() as u8).map(of).collect();
+        let count = self.signatures.len() as u8;
+        let of = |class| vec![INT, class, self.exception, (class + 1) % count];
+        let fields = (0..count).map(of).collect();
         Interface { fields, ..self }
     }
 

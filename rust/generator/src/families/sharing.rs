@@ -119,8 +119,20 @@ impl Writer<'_> {
         self.jump_or_close(top);
         self.close();
         self.place(missing);
-        self.pop();
+        self.meet_missing();
         self.jump_or_close(top);
         self.close();
+    }
+
+    /// What null threw is dropped, or locked for a while.
+    fn meet_missing(&mut self) {
+        if self.rng.chance(1, 3) {
+            return self.pop();
+        }
+        self.store(LOCK);
+        self.enter(LOCK);
+        self.condition();
+        self.pop();
+        self.release(LOCK);
     }
 }
