@@ -295,8 +295,8 @@ fn putfield<L: Law>(row: Row, next: Row, field: Field, descriptor: u8, null: Thr
     null.map_or(Ok(()), |throw| throw.fits::<L>())
 }
 
-/// The owner is of the field's class and may go. Where it may be null, so
-/// may the throw be that is given back.
+/// The owner is of the field's class and may go. Where it may be null, the
+/// throw is asked for too, and given back.
 fn asks_owner<'a, L: Law>(
     owner: Entry,
     class: u8,
