@@ -4,9 +4,12 @@
 mod common;
 
 use common::tool;
+use generator::builder::{lay_out, Method, Row};
 use generator::families::{self, typed};
 use generator::rng::Rng;
 use generator::schedule::schedule;
+use reference::entries::Entry;
+use reference::instructions::{Addr, Field, Instr, Var};
 use reference::machine::fresh;
 use trace::{follow, Input, Turn};
 
@@ -60,4 +63,57 @@ fn traces_have_the_reference_s_answers() {
         let wanted: Vec<u8> = output.steps.iter().map(|step| step.answer).collect();
         assert_eq!(answers(&ran.out), wanted, "seed {seed}");
     }
+}
+
+/// A lock read from a new object's field is null, and caught.
+fn null_is_caught() -> Vec<u8> {
+    let v = Var(0);
+    let field = Field {
+        class: 0,
+        number: 0,
+    };
+    let (free, held) = (Entry::fresh(0), Entry::reference(0, 1, -1));
+    let (top, null) = (Entry::Top, Entry::Nullable { class: 0 });
+    let lines = [
+        (Instr::New(0, None), Row::new(&[top], &[])),
+        (Instr::Getfield(field, None), Row::new(&[top], &[free])),
+        (Instr::Store(v), Row::new(&[top], &[null])),
+        (Instr::Enter(v, Some(Addr(7))), Row::new(&[null], &[])),
+        (Instr::Exit(v), Row::new(&[held], &[])),
+        (Instr::Return, Row::new(&[free], &[])),
+        (Instr::Pop, Row::new(&[null], &[free])),
+        (Instr::Return, Row::new(&[null], &[])),
+    ];
+    let (code, rows) = lines.into_iter().unzip();
+    lay_out(&[Method {
+        fields: vec![0],
+        variables: 1,
+        stack_limit: 1,
+        code,
+        rows,
+        ..Method::default()
+    }])
+}
+
+#[test]
+fn a_trace_tells_of_null() {
+    let bundle = null_is_caught();
+    let ran = tool(&["trace", "-", "0", "0", "0", "0", "0", "0"], &bundle);
+    let told = "\
+-: accepted classes 1
+
+step  thread  class  address  instruction                object  answer
+1     0       0      1        new 0                      1       0 went on
+2     0       0      2        getfield C0.0              1       0 went on
+3     0       0      3        store 0                    null    0 went on
+4     0       0      4        monitorenter 0, handler 7  null    0 went on
+5     0       0      7        pop                        0       0 went on
+6     0       0      8        return                     -       1 ended by return
+
+no thread lives
+";
+    assert_eq!(ran.out, told);
+    let shown = tool(&["show", "-"], &bundle).out;
+    assert!(shown.contains("class 0: arguments none, fields C0, variables 1, stack 1"));
+    assert!(shown.contains("monitorenter 0, handler 7  C0?"));
 }

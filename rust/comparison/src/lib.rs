@@ -6,6 +6,7 @@ pub mod order;
 mod places;
 pub mod proved;
 pub mod records;
+mod refused;
 pub mod runs;
 pub mod states;
 pub mod texts;

@@ -2,8 +2,8 @@
 
 use crate::digest::{mixed, of_turns};
 use crate::{proved, Answers, Differences, Part};
-use generator::families::{self, contending, typed};
-use generator::lively::Lively;
+use generator::families::{self, contending, sharing, typed};
+use generator::lively::{FieldUse, Lively};
 use generator::rng::Rng;
 use generator::schedule::Scheduler;
 use reference::machine::{answer, fresh};
@@ -27,6 +27,7 @@ pub struct Runs {
     caught_new: u64,
     /// Threads started with more than three arguments.
     started_with_many: u64,
+    fields: FieldUse,
     /// Steps of a number that no thread has: all, and those that no
     /// schedule's byte can name.
     beyond: u64,
@@ -62,9 +63,10 @@ impl Contention {
 /// A bundle, and how it was run.
 fn run(seed: u64) -> (Vec<u8>, Lively, bool) {
     let mut rng = Rng::new(!seed);
-    let contends = seed.is_multiple_of(8);
+    let (contends, shares) = (seed.is_multiple_of(8), seed % 8 == 4);
     let bundle = match seed % 3 {
         _ if contends => contending::contending(&mut rng).lay_out(),
+        _ if shares => sharing::sharing(&mut rng).lay_out(),
         0 => families::bundle(seed).1,
         _ => typed::well_typed(&mut rng),
     };
@@ -74,7 +76,7 @@ fn run(seed: u64) -> (Vec<u8>, Lively, bool) {
         _ => rng.between(10, 200),
     };
     let (_, state) = fresh(&bundle);
-    let scheduler = match contends {
+    let scheduler = match contends || shares {
         true => Scheduler::restless(rng.number()),
         false => Scheduler::new(rng.number()),
     };
@@ -113,13 +115,15 @@ impl Runs {
         self.caught_athrow += u64::from(run.caught_athrow);
         self.caught_new += u64::from(run.caught_new);
         self.started_with_many += run.started_with_many;
+        self.fields.add(&run.fields);
         let beyond = |&&byte: &&u8| usize::from(Turn(byte).thread()) >= THREADS;
         self.beyond += run.schedule.iter().filter(beyond).count() as u64;
     }
 }
 
 impl Part for Runs {
-    /// Well-typed bundles, any bundle, and threads that want the same locks.
+    /// Well-typed bundles, any bundle, threads that want the same locks, and
+    /// threads that find them in fields.
     fn generated(&mut self, seed: u64) {
         let (bundle, run, contends) = run(seed);
         let (first, _) = fresh(&bundle);
@@ -153,6 +157,9 @@ impl Part for Runs {
             "  threads started with more than three arguments: {}",
             self.started_with_many
         );
+        for (what, count) in self.fields.named() {
+            println!("  {what}: {count}");
+        }
         println!(
             "  steps of thread numbers 8 to 15: {}, 16 to 255: {}",
             self.beyond, self.far_beyond
@@ -187,6 +194,7 @@ impl Part for Runs {
                 self.contention.enough(),
             ),
         ];
+        let named = named.into_iter().chain(self.fields.named());
         seen.extend(named.map(|(what, count)| (what.to_string(), count)));
         seen
     }

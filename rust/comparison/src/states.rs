@@ -2,7 +2,7 @@
 //! program with the state before it, and the state that it prints is compared.
 
 use crate::{Answers, Differences, Part};
-use generator::families::{self, contending, typed};
+use generator::families::{self, contending, sharing, typed};
 use generator::lively::Lively;
 use generator::rng::Rng;
 use generator::schedule::{any_state, Scheduler};
@@ -62,9 +62,10 @@ impl States {
 /// A bundle, a state of it, and a schedule from there.
 fn run(seed: u64) -> (Vec<u8>, State, Vec<u8>) {
     let mut rng = Rng::new(seed ^ 0x57A7_E000_0000_0000);
-    let bundle = match rng.below(4) {
+    let bundle = match rng.below(5) {
         0 => contending::contending(&mut rng).lay_out(),
-        1 => families::bundle(seed).1,
+        1 => sharing::sharing(&mut rng).lay_out(),
+        2 => families::bundle(seed).1,
         _ => typed::well_typed(&mut rng),
     };
     let state = match rng.chance(1, 4) {

@@ -1,5 +1,6 @@
 //! Both verifiers on the same bundles: number, class, address and why.
 
+use crate::refused::RefusedFields;
 use crate::whys::Whys;
 use crate::{proved, Differences, Part};
 use generator::builder::{case_a, lay_out};
@@ -14,6 +15,7 @@ pub struct Verdicts {
     bytes: usize,
     numbers: [u64; 11],
     whys: Whys,
+    refused: RefusedFields,
     /// Accepted bundles by what they have.
     marks: [u64; MARKS.len()],
     differences: Differences,
@@ -48,6 +50,7 @@ impl Verdicts {
         self.bytes += bundle.len();
         self.numbers[usize::from(reference.number)] += 1;
         self.whys.add(bundle, reference);
+        self.refused.add(bundle, reference);
         if reference.number == 0 {
             self.mark(bundle);
         }
@@ -81,8 +84,8 @@ impl Part for Verdicts {
         }
         self.whys.print();
         println!("  accepted: {}", self.numbers[0]);
-        for (mark, count) in self.marks() {
-            println!("  {mark}: {count}");
+        for (what, count) in self.marks().chain(self.refused.seen()) {
+            println!("  {what}: {count}");
         }
         println!("  differences: {}", self.differences.0);
     }
@@ -97,6 +100,7 @@ impl Part for Verdicts {
         verdicts
             .chain(self.whys.seen())
             .chain(self.marks())
+            .chain(self.refused.seen())
             .collect()
     }
 }

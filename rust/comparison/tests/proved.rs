@@ -2,7 +2,7 @@
 
 use comparison::{digest, proved};
 use generator::builder::{case_a, lay_out, Method, Row};
-use generator::families::{self, typed};
+use generator::families::{self, sharing, typed};
 use generator::rng::Rng;
 use generator::schedule::schedule;
 use reference::bundle::{Addr, Instr, Verdict};
@@ -83,7 +83,11 @@ fn a_slipped_machine_differs_from_the_proved_one() {
     for slip in Slip::MACHINE {
         let differing = (0..1_000)
             .filter(|&seed| {
-                let b = typed::well_typed(&mut Rng::new(seed));
+                let mut rng = Rng::new(seed);
+                let b = match seed % 2 {
+                    0 => typed::well_typed(&mut rng),
+                    _ => sharing::sharing(&mut rng).lay_out(),
+                };
                 let turns = schedule(&b, &fresh(&b).1, seed, 100);
                 digest::of_slipped_run(&b, &turns, slip) != proved::digest(&b, &turns)
             })

@@ -4,7 +4,7 @@ use crate::asked::Asked;
 use crate::comparison::Change;
 use crate::edges::{Edge, Misfit};
 use crate::words::{kind, Place};
-use listing::{Entry, Instruction, Method, Opcode, Program, Row};
+use listing::{byte, Entry, Instruction, Method, Opcode, Program, Row};
 
 /// An address with its instruction and its row.
 pub struct Address<'a> {
@@ -69,10 +69,10 @@ impl<'a> Address<'a> {
                 let left = &self.stack()[1..];
                 Ok(vec![
                     self.next(left),
-                    self.edge(self.instruction.field, left),
+                    self.edge(self.instruction.address, left),
                 ])
             }
-            Opcode::Enter => self.lock(v, Change::Entered),
+            Opcode::Enter => self.enter(v),
             Opcode::Exit => self.lock(v, Change::Exited),
             Opcode::New => self.make(),
             Opcode::Start => self.start(),
@@ -82,7 +82,23 @@ impl<'a> Address<'a> {
                 self.stack_goes(0)?;
                 Ok(vec![])
             }
+            Opcode::Getfield => self.getfield(),
+            Opcode::Putfield => self.putfield(),
         }
+    }
+
+    /// Whether what is locked, or the owner of a field, may be null.
+    pub fn may_be_null(&self) -> bool {
+        let entry = match self.instruction.form.opcode {
+            Opcode::Enter => {
+                let v = usize::from(self.instruction.operand);
+                self.row.variables.get(v)
+            }
+            Opcode::Getfield => self.stack().first(),
+            Opcode::Putfield => self.stack().get(1),
+            _ => None,
+        };
+        matches!(entry, Some(Entry::Nullable { .. }))
     }
 
     fn stack(&self) -> &[Entry] {
@@ -149,6 +165,71 @@ impl<'a> Address<'a> {
         Ok(vec![Edge::new(to, self.method.row(to), &variables, rest)])
     }
 
+    /// What may be null is thrown where it is.
+    fn enter(&self, v: usize) -> Result<Vec<Edge>, Asked> {
+        match self.row.variables[v] {
+            null @ Entry::Nullable { .. } => {
+                let next = self.next(self.stack()).changing(v, Change::Entered);
+                self.unless_null(null, next)
+            }
+            _ => self.lock(v, Change::Entered),
+        }
+    }
+
+    /// The owner on top makes way for what its field holds.
+    fn getfield(&self) -> Result<Vec<Edge>, Asked> {
+        self.has(1)?;
+        let owner = self.takes_owner(0)?;
+        let held = Entry::held(self.descriptor());
+        self.unless_null(owner, self.next(&self.pushed(held, 1)))
+    }
+
+    /// The value on top, and the owner below it.
+    fn putfield(&self) -> Result<Vec<Edge>, Asked> {
+        self.has(2)?;
+        let (place, value) = (Place::Stack(0), self.stack()[0]);
+        match Entry::held(self.descriptor()) {
+            Entry::Nullable { class } => takes_perhaps_null(place, value, class)?,
+            integer => takes(place, value, integer)?,
+        }
+        goes(place, value)?;
+        let owner = self.takes_owner(1)?;
+        self.unless_null(owner, self.next(&self.stack()[2..]))
+    }
+
+    /// The descriptor of the field that is named.
+    pub fn descriptor(&self) -> u8 {
+        let (class, field) = self.instruction.field();
+        let method = self.program.method(class);
+        byte(self.program.bundle(), method.head.field(usize::from(field)))
+    }
+
+    /// The owner of the field, at this entry of the stack.
+    fn takes_owner(&self, entry: usize) -> Result<Entry, Asked> {
+        let (class, _) = self.instruction.field();
+        let (place, owner) = (Place::Stack(entry), self.stack()[entry]);
+        takes_perhaps_null(place, owner, class)?;
+        goes(place, owner)?;
+        Ok(owner)
+    }
+
+    /// The edge to the next row, and where this may be null, that of the throw.
+    fn unless_null(&self, entry: Entry, next: Edge) -> Result<Vec<Edge>, Asked> {
+        match entry {
+            Entry::Nullable { .. } => {
+                let thrown = self.failure()?;
+                Ok([next].into_iter().chain(thrown).collect())
+            }
+            _ => Ok(vec![next]),
+        }
+    }
+
+    /// The edge of what a failed new and null throw, if it is caught.
+    fn failure(&self) -> Result<Option<Edge>, Asked> {
+        self.stack_goes(0)?;
+        self.throw(None, Entry::fresh(self.program.trailer.exception))
+    }
+
     fn lock(&self, v: usize, change: Change) -> Result<Vec<Edge>, Asked> {
         match self.row.variables[v] {
             Entry::Ref { .. } => Ok(vec![self.next(self.stack()).changing(v, change)]),
@@ -161,10 +242,9 @@ impl<'a> Address<'a> {
     }
 
     fn make(&self) -> Result<Vec<Edge>, Asked> {
-        self.stack_goes(0)?;
         let made = Entry::fresh(self.instruction.operand);
         let next = self.next(&self.pushed(made, 0));
-        let thrown = self.throw(None, Entry::fresh(self.program.trailer.exception))?;
+        let thrown = self.failure()?;
         Ok([next].into_iter().chain(thrown).collect())
     }
 
@@ -190,9 +270,9 @@ impl<'a> Address<'a> {
     }
 
     /// The edge to the handler; without one, all must go. What a failed new
-    /// throws stands at no place.
+    /// or null throws stands at no place.
     fn throw(&self, place: Option<Place>, thrown: Entry) -> Result<Option<Edge>, Asked> {
-        match self.instruction.field {
+        match self.instruction.address {
             0 => {
                 place.map_or(Ok(()), |place| goes(place, thrown))?;
                 self.variables_go()?;
@@ -223,6 +303,18 @@ fn takes(place: Place, found: Entry, wanted: Entry) -> Asking {
             place,
             found,
             wanted: kind(wanted),
+        }),
+    }
+}
+
+/// An entry that is taken is null or a reference of this class.
+fn takes_perhaps_null(place: Place, found: Entry, class: u8) -> Asking {
+    match found.may_be_of(class) {
+        true => Ok(()),
+        false => Err(Asked::Taken {
+            place,
+            found,
+            wanted: format!("a reference of class {class}, null or not,"),
         }),
     }
 }

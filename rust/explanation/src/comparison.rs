@@ -37,7 +37,12 @@ impl Comparison {
     pub fn short(&self) -> Option<Short> {
         match (self.came, self.claimed) {
             (Entry::Ref { class, pair }, claimed) => self.reference(class, pair, claimed),
-            (Entry::Int | Entry::Top, Entry::Top) | (Entry::Int, Entry::Int) => None,
+            (Entry::Nullable { class }, claimed) if self.change == Change::Entered => {
+                self.reference(class, Pair::ZERO, claimed)
+            }
+            (Entry::Int | Entry::Top | Entry::Nullable { .. }, Entry::Top) => None,
+            (Entry::Int, Entry::Int) => None,
+            (Entry::Nullable { class }, Entry::Nullable { class: own }) if own == class => None,
             (came, claimed) => Some(Short::Kind { came, claimed }),
         }
     }
@@ -51,8 +56,8 @@ impl Comparison {
             }),
         };
         let wanted = match weight(claimed) {
-            // A plain claim of Top drops the reference, whatever its dip is.
-            Ok(_) if claimed == Entry::Top && self.change == Change::None => Pair {
+            // A plain claim that has no pair drops it, whatever the dip is.
+            Ok(_) if !matches!(claimed, Entry::Ref { .. }) && self.change == Change::None => Pair {
                 dip: pair.dip,
                 end: 0,
             },
@@ -86,10 +91,11 @@ impl Change {
 }
 
 /// What a claim weighs behind a reference of this class: its pair, or (0,0)
-/// as Top; no other can follow.
+/// as Top or where it may be null; no other can follow.
 fn weight(claimed: Entry, class: u8) -> Option<Pair> {
     match claimed {
         Entry::Top => Some(Pair::ZERO),
+        Entry::Nullable { class: own } if own == class => Some(Pair::ZERO),
         Entry::Ref { class: own, pair } if own == class => Some(pair),
         _ => None,
     }

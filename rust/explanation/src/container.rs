@@ -3,7 +3,7 @@
 use crate::finding::{explained, Finding};
 use crate::words::{some, there};
 use crate::Explanation;
-use listing::{byte, Head, Method, Program, Trailer, INT_DESCRIPTOR, MARK};
+use listing::{byte, Head, Method, Program, Trailer, INT_DESCRIPTOR, MARK, MOST_FIELDS};
 
 const LONGEST: usize = 65_535;
 const MOST_CLASSES: u8 = 8;
@@ -86,7 +86,7 @@ pub fn limits(method: &Method) -> Explanation {
         arguments,
         variables,
         stack,
-        zero,
+        fields,
         code,
         ..
     } = method.head;
@@ -104,8 +104,8 @@ pub fn limits(method: &Method) -> Explanation {
     find(variables > MOST_VARIABLES, at + 3, 1, text);
     let text = format!("K is {stack}, and a stack of at most {MOST_STACK} is allowed.");
     find(stack > MOST_STACK, at + 4, 1, text);
-    let text = format!("The byte behind K is {zero}, and must be 0.");
-    find(zero != 0, at + 5, 1, text);
+    let text = format!("The field count is {fields}, and at most {MOST_FIELDS} are allowed.");
+    find(fields > usize::from(MOST_FIELDS), at + 5, 1, text);
     let text = format!("k is {code}, and 1 to {MOST_CODE} instructions are allowed.");
     find(!(1..=MOST_CODE).contains(&code), at + 6, 2, text);
     let rule = format!(
@@ -138,13 +138,15 @@ pub fn record(program: &Program, class: u8) -> Explanation {
 pub fn descriptor(program: &Program, class: u8) -> Explanation {
     let head = program.method(class).head;
     let classes = program.trailer.classes;
-    let findings = (0..head.arguments)
-        .map(|argument| (argument, head.descriptor(argument)))
-        .filter_map(|(argument, at)| {
+    let arguments = (0..head.arguments).map(|i| (format!("Argument {i}"), head.argument(i)));
+    let fields = (0..head.fields).map(|i| (format!("Field {i}"), head.field(i)));
+    let findings = arguments
+        .chain(fields)
+        .filter_map(|(name, at)| {
             let descriptor = byte(program.bundle(), at);
             let known = descriptor == INT_DESCRIPTOR || descriptor < classes;
             let text = format!(
-                "Argument {argument} is said to be of class {descriptor}, and {}, counted from 0.",
+                "{name} is said to be of class {descriptor}, and {}, counted from 0.",
                 there(classes, "class")
             );
             (!known).then(|| Finding::new(at, 1, text))

@@ -3,7 +3,7 @@
 use crate::asked::Asked;
 use crate::comparison::{Change, Comparison, Short};
 use crate::words::{sentence, some, Place};
-use listing::{Entry, Row};
+use listing::{Entry, Pair, Row};
 
 /// What an instruction leaves, and the row that is reached.
 #[derive(Clone, Debug)]
@@ -110,6 +110,7 @@ impl Misfit {
         let place = sentence(&place.to_string());
         let after = match came {
             Entry::Ref { pair, .. } => change.moved(pair).to_string(),
+            Entry::Nullable { .. } => change.moved(Pair::ZERO).to_string(),
             other => other.to_string(),
         };
         match change {
@@ -140,6 +141,10 @@ impl Misfit {
             } => {
                 format!("Row {to} would use an integer that may not be there.")
             }
+            Short::Kind {
+                came: Entry::Nullable { class },
+                claimed: Entry::Ref { class: own, .. },
+            } if own == class => format!("Row {to} would use an object where null may be."),
             Short::Kind { .. } => format!("Row {to} would use a lock that may not be there."),
         }
     }

@@ -13,7 +13,8 @@ pub fn explain(program: &Program, class: u8, address: u16) -> Explanation {
     };
     let rule = format!(
         "Row {address} of class {class} must be well formed: its depth at most K, each variable \
-         and each stack entry in use Int, Top or a reference, and the others zeros."
+         and each stack entry in use Int, Top or a reference, which may be null or not, and \
+         the others zeros."
     );
     explained(program.bundle(), &rule, findings)
 }
@@ -50,19 +51,19 @@ fn entries(method: &Method, address: u16, classes: u8) -> Vec<Finding> {
 /// Why an entry may not stand in a place that is in use or not.
 fn wrong(entry: Entry, used: bool, classes: u8) -> Option<String> {
     match entry {
-        Entry::Int | Entry::Top | Entry::Ref { .. } if used => None,
+        Entry::Int | Entry::Top | Entry::Ref { .. } | Entry::Nullable { .. } if used => None,
         Entry::Blank if !used => None,
         Entry::Blank => Some("a place in use has four zeros".to_string()),
         _ if !used => Some("a place that is not in use has other bytes than zeros".to_string()),
         Entry::Malformed(bytes) => Some(malformed(bytes, classes)),
-        Entry::Int | Entry::Top | Entry::Ref { .. } => None,
+        Entry::Int | Entry::Top | Entry::Ref { .. } | Entry::Nullable { .. } => None,
     }
 }
 
 fn malformed(bytes: [u8; 4], classes: u8) -> String {
     match bytes {
         [1 | 2, ..] => "Int and Top have zeros behind their first byte".to_string(),
-        [3, class, _, _] if class >= classes => format!(
+        [3 | 4, class, _, _] if class >= classes => format!(
             "it refers to class {class}, and {}, counted from 0",
             there(classes, "class")
         ),
@@ -73,6 +74,7 @@ fn malformed(bytes: [u8; 4], classes: u8) -> String {
             "the byte of its end is {end}, and 1 to {HIGHEST_END_BYTE} are allowed, \
              for ends of -63 to 63"
         ),
+        [4, ..] => "a reference that may be null has zeros behind its class".to_string(),
         [kind, ..] => format!("no entry begins with {kind}"),
     }
 }

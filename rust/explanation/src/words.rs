@@ -75,6 +75,7 @@ pub fn kind(entry: Entry) -> String {
     match entry {
         Entry::Int => "an integer".to_string(),
         Entry::Ref { class, .. } => format!("a reference of class {class}"),
+        Entry::Nullable { class } => format!("a reference of class {class} that may be null"),
         Entry::Top => "Top, of which nothing is known,".to_string(),
         Entry::Blank | Entry::Malformed(_) => "no type at all".to_string(),
     }

@@ -14,6 +14,8 @@ pub struct Row {
 #[derive(Clone, Debug, Default, PartialEq, Eq)]
 pub struct Method {
     pub arguments: Vec<u8>,
+    /// The descriptors of the class's fields.
+    pub fields: Vec<u8>,
     pub variables: usize,
     pub stack_limit: usize,
     pub code: Vec<Instr>,
@@ -32,7 +34,7 @@ impl Row {
 impl Method {
     /// The record: descriptors, instructions, rows.
     pub fn record(&self) -> Vec<u8> {
-        let mut out = self.arguments.clone();
+        let mut out = [&self.arguments[..], &self.fields].concat();
         out.extend(self.code.iter().flat_map(|instr| instr.bytes()));
         for row in &self.rows {
             self.write_row(row, &mut out);
@@ -59,7 +61,7 @@ impl Method {
             self.arguments.len() as u8,
             v,
             k,
-            0,
+            self.fields.len() as u8,
             code_high,
             code_low,
         ]
@@ -202,7 +204,7 @@ pub fn case_a() -> Method {
     let code = vec![
         Instr::New(0, None),
         Instr::Store(v),
-        Instr::Enter(v),
+        Instr::Enter(v, None),
         Instr::Push0,
         Instr::If(Addr(8)),
         Instr::Exit(v),
@@ -228,10 +230,10 @@ pub fn case_a() -> Method {
     rows[1].stack.push(free);
     rows[4].stack.push(Entry::Int);
     Method {
-        arguments: vec![],
         variables: 1,
         stack_limit: 1,
         code,
         rows,
+        ..Method::default()
     }
 }

@@ -7,14 +7,17 @@ pub mod contending;
 pub mod damage;
 pub mod edges;
 mod faults;
+mod fields;
 pub mod flow;
 pub(crate) mod interface;
 mod overlapping;
 mod probes;
 pub mod random;
 mod settle;
+pub mod sharing;
 pub mod sized;
 mod tempt;
+mod tempt_fields;
 mod throwing;
 pub mod typed;
 mod unreached;
@@ -46,24 +49,27 @@ pub enum Family {
     Overlapping,
     /// Threads that want the same locks.
     Contending,
+    /// Threads that find their locks in the fields of one object.
+    Sharing,
     /// What only a slipped verifier accepts.
     Tempting,
 }
 
 impl Family {
     /// How many of every hundred bundles come from each family.
-    const SHARES: [(Family, usize); 11] = [
+    const SHARES: [(Family, usize); 12] = [
         (Family::Bytes, 6),
         (Family::Structured, 6),
         (Family::StructuredDamaged, 6),
-        (Family::Typed, 22),
-        (Family::TypedDamaged, 17),
+        (Family::Typed, 20),
+        (Family::TypedDamaged, 15),
         (Family::Faulty, 8),
-        (Family::Probe, 14),
+        (Family::Probe, 12),
         (Family::Edge, 7),
         (Family::Overlapping, 3),
         (Family::Contending, 1),
-        (Family::Tempting, 10),
+        (Family::Sharing, 1),
+        (Family::Tempting, 15),
     ];
 
     fn choose(rng: &mut Rng) -> Family {
@@ -100,6 +106,7 @@ impl Family {
             Family::Edge => edges::edge(rng),
             Family::Overlapping => overlapping::overlapping(rng),
             Family::Contending => contending::contending(rng).lay_out(),
+            Family::Sharing => sharing::sharing(rng).lay_out(),
             Family::Tempting => {
                 let slip = rng.pick(&Slip::VERIFIER);
                 typed::tempting(rng, slip)

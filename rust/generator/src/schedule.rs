@@ -2,9 +2,10 @@
 
 use crate::rng::Rng;
 use reference::bundle::{Addr, Bundle, Class, Instr};
-use reference::entries::kind;
+use reference::entries::{kind, Entry};
+use reference::instructions::MAX_FIELDS;
 use reference::machine::step_in;
-use reference::state::{State, Thread, Value, MAX_COUNT, OBJECTS, PLACES, THREADS, THROWN_BY_NEW};
+use reference::state::{State, Thread, Value, MAX_COUNT, OBJECTS, OBJECT_0, PLACES, THREADS};
 use trace::Turn;
 
 /// How a schedule treats its threads.
@@ -112,7 +113,11 @@ pub fn valid_state(rng: &mut Rng, bundle: &Bundle) -> State {
             *class = rng.byte();
         }
     }
-    state.classes[usize::from(THROWN_BY_NEW)] = bundle.exception();
+    state.classes[usize::from(OBJECT_0)] = bundle.exception();
+    if garbage {
+        state.fields.fill_with(|| garbage_value(rng));
+    }
+    fill_fields(rng, bundle, &mut state);
     let living = rng.pick(&[1, 4, 8, 8]);
     for t in 0..THREADS {
         state.threads[t] = match rng.chance(living, 8) {
@@ -130,6 +135,20 @@ pub fn valid_state(rng: &mut Rng, bundle: &Bundle) -> State {
     state
 }
 
+/// Values for the fields that objects have: mostly as described, at times any.
+fn fill_fields(rng: &mut Rng, bundle: &Bundle, state: &mut State) {
+    for object in 0..usize::from(state.objects) {
+        let fields = bundle.class(state.classes[object]).fields;
+        for (number, &descriptor) in fields.iter().enumerate() {
+            let held = match rng.chance(1, 8) {
+                true => value(rng, state),
+                false => value_like(rng, state, &Entry::held(descriptor).bytes()),
+            };
+            state.fields[object * MAX_FIELDS + number] = held;
+        }
+    }
+}
+
 /// If the thread is about to enter or exit, the object it names is held: by
 /// itself, or by another.
 fn hold_next(rng: &mut Rng, bundle: &Bundle, state: &mut State, t: usize) {
@@ -138,7 +157,7 @@ fn hold_next(rng: &mut Rng, bundle: &Bundle, state: &mut State, t: usize) {
         return;
     }
     let class = bundle.class(thread.class);
-    let (Instr::Enter(v) | Instr::Exit(v)) = class.instruction(Addr(thread.address)) else {
+    let (Instr::Enter(v, _) | Instr::Exit(v)) = class.instruction(Addr(thread.address)) else {
         return;
     };
     let Value::Ref(object) = thread.variables[usize::from(v.0)] else {
@@ -175,7 +194,7 @@ fn integer(rng: &mut Rng) -> Value {
 fn garbage_value(rng: &mut Rng) -> Value {
     match rng.below(4) {
         0 => Value::Ref(rng.byte()),
-        1 => Value::ZERO,
+        1 => rng.pick(&[Value::ZERO, Value::Null]),
         _ => integer(rng),
     }
 }
@@ -216,6 +235,7 @@ fn value(rng: &mut Rng, state: &State) -> Value {
     match state.objects {
         0 => integer(rng),
         _ if rng.chance(1, 3) => integer(rng),
+        _ if rng.chance(1, 4) => Value::Null,
         objects => Value::Ref(rng.below(usize::from(objects)) as u8),
     }
 }
@@ -235,12 +255,14 @@ fn follow_row(rng: &mut Rng, class: &Class, state: &State, thread: &mut Thread) 
 }
 
 fn value_like(rng: &mut Rng, state: &State, raw: &[u8; 4]) -> Value {
+    let refers = matches!(raw[0], kind::REFERENCE | kind::NULLABLE);
     let alike: Vec<u8> = (0..state.objects)
-        .filter(|&object| raw[0] == kind::REFERENCE && state.classes[usize::from(object)] == raw[1])
+        .filter(|&object| refers && state.classes[usize::from(object)] == raw[1])
         .collect();
     match raw[0] {
         kind::INT => integer(rng),
-        kind::REFERENCE if !alike.is_empty() => Value::Ref(rng.pick(&alike)),
+        kind::NULLABLE if alike.is_empty() || rng.chance(1, 2) => Value::Null,
+        kind::REFERENCE | kind::NULLABLE if !alike.is_empty() => Value::Ref(rng.pick(&alike)),
         _ => value(rng, state),
     }
 }
@@ -279,16 +301,32 @@ fn break_thread(rng: &mut Rng, bundle: &Bundle, state: &mut State, t: usize) {
 fn break_objects(rng: &mut Rng, bundle: &Bundle, state: &mut State, t: usize) {
     let object = rng.below(OBJECTS);
     let at = t * OBJECTS + object;
-    match rng.below(7) {
+    match rng.below(9) {
         0 => state.objects = rng.pick(&[33, 64, 255]),
         1 => state.classes[object] = bundle.count(),
-        2 => state.classes[usize::from(THROWN_BY_NEW)] = other_class(rng, bundle),
+        2 => state.classes[usize::from(OBJECT_0)] = other_class(rng, bundle),
         3 => forget_objects(state),
         4 => state.counts[at] = rng.pick(&[MAX_COUNT + 1, 65_535]),
         // On an object or none, by a live thread or not, beside another or not.
         5 => state.counts[at] = 1,
+        6 | 7 => break_field(rng, bundle, state),
         _ => state.counts[(t + 1) % THREADS * OBJECTS + object] = state.counts[at].max(1),
     }
+}
+
+/// A field refers to no object: one that its class has, if there is any.
+fn break_field(rng: &mut Rng, bundle: &Bundle, state: &mut State) {
+    let objects = 0..usize::from(state.objects);
+    let count = |object: usize| bundle.class(state.classes[object]).fields.len();
+    let used: Vec<usize> = objects
+        .flat_map(|object| (0..count(object)).map(move |number| object * MAX_FIELDS + number))
+        .collect();
+    let place = match used.is_empty() {
+        // Out of use: no breach.
+        true => rng.below(state.fields.len()),
+        false => rng.pick(&used),
+    };
+    state.fields[place] = Value::Ref(rng.pick(&[state.objects, state.objects + 1, 255]));
 }
 
 /// A class other than the exception class: one of the bundle's if it has any.

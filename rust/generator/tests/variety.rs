@@ -1,7 +1,7 @@
 //! The generated inputs are varied enough to be worth comparing on.
 
-use generator::families::{self, contending, typed};
-use generator::lively::Lively;
+use generator::families::{self, contending, sharing, typed};
+use generator::lively::{FieldUse, Lively};
 use generator::marks::MARKS;
 use generator::rng::Rng;
 use generator::schedule::{valid_state, Scheduler};
@@ -60,6 +60,44 @@ fn contending_threads_wait() {
         waits += run.answers.iter().filter(|&&a| a == answer::HELD).count();
     }
     assert!(20 * waits >= steps, "{waits} of {steps}");
+}
+
+/// They are accepted, and threads take locks that others put into fields.
+#[test]
+fn sharing_threads_find_locks_in_fields() {
+    let mut used = FieldUse::default();
+    for seed in 0..500 {
+        let mut rng = Rng::new(seed);
+        let b = sharing::sharing(&mut rng).lay_out();
+        assert_eq!(verify(&b).number, 0, "seed {seed}");
+        let scheduler = Scheduler::restless(seed);
+        let run = Lively::follow(&mut rng, &b, fresh(&b).1, scheduler, 200);
+        used.add(&run.fields);
+    }
+    assert!(used.locked_across >= 500, "{used:?}");
+    assert!(used.caught >= 500, "{used:?}");
+}
+
+#[test]
+fn runs_read_and_write_fields() {
+    let mut used = FieldUse::default();
+    for seed in 0..1_000 {
+        let mut rng = Rng::new(seed);
+        let b = typed::well_typed(&mut rng);
+        let scheduler = Scheduler::new(seed);
+        let run = Lively::follow(&mut rng, &b, fresh(&b).1, scheduler, 100);
+        used.add(&run.fields);
+    }
+    let FieldUse {
+        read,
+        written,
+        locked,
+        caught,
+        uncaught,
+        ..
+    } = used;
+    let often = [read, written, locked, caught, uncaught];
+    assert!(often.iter().all(|&count| count >= 20), "{used:?}");
 }
 
 #[test]

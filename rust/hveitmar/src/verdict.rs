@@ -48,7 +48,7 @@ pub enum Refusal {
     },
     /// 6: a descriptor is neither an integer's nor a class of the bundle.
     Descriptor {
-        /// The class whose argument it describes.
+        /// The class whose argument or field it describes.
         class: u8,
     },
     /// 7: four bytes are no instruction that may stand there.

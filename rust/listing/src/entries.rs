@@ -16,7 +16,14 @@ const END_BIAS: i16 = 64;
 pub enum Entry {
     Int,
     Top,
-    Ref { class: u8, pair: Pair },
+    Ref {
+        class: u8,
+        pair: Pair,
+    },
+    /// A reference that may be null.
+    Nullable {
+        class: u8,
+    },
     Blank,
     Malformed([u8; 4]),
 }
@@ -48,6 +55,7 @@ impl Entry {
                     pair: Pair { dip, end },
                 }
             }
+            [4, class, 0, 0] if class < classes => Entry::Nullable { class },
             _ => Entry::Malformed(bytes),
         }
     }
@@ -66,6 +74,19 @@ impl Entry {
             INT_DESCRIPTOR => Entry::Int,
             class => Entry::fresh(class),
         }
+    }
+
+    /// What a field of this descriptor holds.
+    pub fn held(descriptor: u8) -> Entry {
+        match descriptor {
+            INT_DESCRIPTOR => Entry::Int,
+            class => Entry::Nullable { class },
+        }
+    }
+
+    /// Whether it is null or a reference of this class.
+    pub fn may_be_of(self, wanted: u8) -> bool {
+        matches!(self, Entry::Ref { class, .. } | Entry::Nullable { class } if class == wanted)
     }
 
     /// How many releases are owing on it: a reference with an end below 0
@@ -90,6 +111,7 @@ impl Display for Entry {
             Entry::Int => to.write_str("Int"),
             Entry::Top => to.write_str("Top"),
             Entry::Ref { class, pair } => write!(to, "C{class}{pair}"),
+            Entry::Nullable { class } => write!(to, "C{class}?"),
             Entry::Blank => to.write_str("blank"),
             Entry::Malformed(bytes) => write!(to, "malformed[{}]", hex(bytes)),
         }

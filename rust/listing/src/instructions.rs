@@ -17,6 +17,8 @@ pub enum Opcode {
     Start,
     Throw,
     Return,
+    Getfield,
+    Putfield,
 }
 
 /// What stands in the second byte.
@@ -25,11 +27,16 @@ pub enum Operand {
     Zero,
     Variable,
     Class,
+    /// A class's field: class × 4 + field.
+    Field,
 }
+
+/// How many fields a class may have.
+pub const MOST_FIELDS: u8 = 4;
 
 /// What stands in the two bytes of the address field.
 #[derive(Clone, Copy, Debug, PartialEq, Eq)]
-pub enum Field {
+pub enum AddressField {
     Zero,
     Target,
     Handler,
@@ -41,38 +48,65 @@ pub struct Form {
     pub opcode: Opcode,
     pub name: &'static str,
     pub operand: Operand,
-    pub field: Field,
+    pub address: AddressField,
 }
 
-const fn form(opcode: Opcode, name: &'static str, operand: Operand, field: Field) -> Form {
+const fn form(opcode: Opcode, name: &'static str, operand: Operand, address: AddressField) -> Form {
     Form {
         opcode,
         name,
         operand,
-        field,
+        address,
     }
 }
 
 impl Form {
     /// Every instruction.
-    pub const ALL: [Form; 12] = [
-        form(Opcode::Inc, "inc", Operand::Zero, Field::Zero),
-        form(Opcode::Pop, "pop", Operand::Zero, Field::Zero),
-        form(Opcode::Push0, "push0", Operand::Zero, Field::Zero),
-        form(Opcode::Load, "load", Operand::Variable, Field::Zero),
-        form(Opcode::Store, "store", Operand::Variable, Field::Zero),
-        form(Opcode::If, "if", Operand::Zero, Field::Target),
+    pub const ALL: [Form; 14] = [
+        form(Opcode::Inc, "inc", Operand::Zero, AddressField::Zero),
+        form(Opcode::Pop, "pop", Operand::Zero, AddressField::Zero),
+        form(Opcode::Push0, "push0", Operand::Zero, AddressField::Zero),
+        form(Opcode::Load, "load", Operand::Variable, AddressField::Zero),
+        form(
+            Opcode::Store,
+            "store",
+            Operand::Variable,
+            AddressField::Zero,
+        ),
+        form(Opcode::If, "if", Operand::Zero, AddressField::Target),
         form(
             Opcode::Enter,
             "monitorenter",
             Operand::Variable,
-            Field::Zero,
+            AddressField::Handler,
         ),
-        form(Opcode::Exit, "monitorexit", Operand::Variable, Field::Zero),
-        form(Opcode::New, "new", Operand::Class, Field::Handler),
-        form(Opcode::Start, "start", Operand::Class, Field::Zero),
-        form(Opcode::Throw, "athrow", Operand::Zero, Field::Handler),
-        form(Opcode::Return, "return", Operand::Zero, Field::Zero),
+        form(
+            Opcode::Exit,
+            "monitorexit",
+            Operand::Variable,
+            AddressField::Zero,
+        ),
+        form(Opcode::New, "new", Operand::Class, AddressField::Handler),
+        form(Opcode::Start, "start", Operand::Class, AddressField::Zero),
+        form(
+            Opcode::Throw,
+            "athrow",
+            Operand::Zero,
+            AddressField::Handler,
+        ),
+        form(Opcode::Return, "return", Operand::Zero, AddressField::Zero),
+        form(
+            Opcode::Getfield,
+            "getfield",
+            Operand::Field,
+            AddressField::Handler,
+        ),
+        form(
+            Opcode::Putfield,
+            "putfield",
+            Operand::Field,
+            AddressField::Handler,
+        ),
     ];
 
     /// Whether the code may end with it.
@@ -86,7 +120,8 @@ impl Form {
 pub struct Instruction {
     pub form: Form,
     pub operand: u8,
-    pub field: u16,
+    /// The target or the handler, or what else stands in its place.
+    pub address: u16,
 }
 
 impl Instruction {
@@ -97,23 +132,32 @@ impl Instruction {
         Some(Instruction {
             form,
             operand,
-            field: u16::from_be_bytes([high, low]),
+            address: u16::from_be_bytes([high, low]),
         })
+    }
+
+    /// The class and the field that an operand names, if it names a field.
+    pub fn field(&self) -> (u8, u8) {
+        (self.operand / MOST_FIELDS, self.operand % MOST_FIELDS)
     }
 }
 
-/// `if 8`, `load 0`, `new 1, handler 5`.
+/// `if 8`, `load 0`, `new 1, handler 5`, `getfield C1.2`.
 impl Display for Instruction {
     fn fmt(&self, to: &mut Formatter) -> fmt::Result {
         to.write_str(self.form.name)?;
         match self.form.operand {
             Operand::Zero => {}
             Operand::Variable | Operand::Class => write!(to, " {}", self.operand)?,
+            Operand::Field => {
+                let (class, field) = self.field();
+                write!(to, " C{class}.{field}")?;
+            }
         }
-        match (self.form.field, self.field) {
-            (Field::Zero, _) | (Field::Handler, 0) => Ok(()),
-            (Field::Target, target) => write!(to, " {target}"),
-            (Field::Handler, handler) => write!(to, ", handler {handler}"),
+        match (self.form.address, self.address) {
+            (AddressField::Zero, _) | (AddressField::Handler, 0) => Ok(()),
+            (AddressField::Target, target) => write!(to, " {target}"),
+            (AddressField::Handler, handler) => write!(to, ", handler {handler}"),
         }
     }
 }

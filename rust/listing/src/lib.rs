@@ -17,7 +17,7 @@ mod rows;
 pub use bytes::{byte, hex, word};
 pub use columns::columns;
 pub use entries::{Entry, Pair, HIGHEST_DIP, HIGHEST_END_BYTE, INT_DESCRIPTOR};
-pub use instructions::{Field, Form, Instruction, Opcode, Operand};
+pub use instructions::{AddressField, Form, Instruction, Opcode, Operand, MOST_FIELDS};
 pub use method::Method;
 pub use places::{Head, Trailer, HEAD, MARK, TRAILER};
 pub use program::Program;

@@ -27,7 +27,14 @@ impl Method<'_> {
     /// The descriptors of its arguments.
     pub fn arguments(&self) -> Vec<u8> {
         (0..self.head.arguments)
-            .map(|argument| byte(self.bytes, self.head.descriptor(argument)))
+            .map(|argument| byte(self.bytes, self.head.argument(argument)))
+            .collect()
+    }
+
+    /// The descriptors of its class's fields.
+    pub fn fields(&self) -> Vec<u8> {
+        (0..self.head.fields)
+            .map(|field| byte(self.bytes, self.head.field(field)))
             .collect()
     }
 
@@ -60,18 +67,24 @@ impl Method<'_> {
         }
     }
 
-    /// `class 1: arguments Int C0, variables 2, stack 4`.
+    /// `class 1: arguments Int C0, fields C1, variables 2, stack 4`; a class
+    /// without fields says nothing of them.
     fn heading(&self) -> String {
-        let arguments: Vec<String> = self.arguments().into_iter().map(descriptor).collect();
-        let arguments = match arguments.is_empty() {
-            true => "none".to_string(),
-            false => arguments.join(" "),
+        let arguments = match self.head.arguments {
+            0 => "none".to_string(),
+            _ => descriptors(self.arguments()),
+        };
+        let fields = match self.head.fields {
+            0 => String::new(),
+            _ => format!(", fields {}", descriptors(self.fields())),
         };
         let Head {
             variables, stack, ..
         } = self.head;
         let class = self.class;
-        format!("class {class}: arguments {arguments}, variables {variables}, stack {stack}")
+        format!(
+            "class {class}: arguments {arguments}{fields}, variables {variables}, stack {stack}"
+        )
     }
 
     /// The instruction, or the bytes that are none.
@@ -81,6 +94,11 @@ impl Method<'_> {
             None => format!("none[{}]", hex(&self.instruction_bytes(address))),
         }
     }
+}
+
+fn descriptors(bytes: Vec<u8>) -> String {
+    let words: Vec<String> = bytes.into_iter().map(descriptor).collect();
+    words.join(" ")
 }
 
 fn descriptor(byte: u8) -> String {

@@ -59,7 +59,7 @@ pub struct Head {
     pub variables: usize,
     /// K
     pub stack: usize,
-    pub zero: u8,
+    pub fields: usize,
     /// k
     pub code: u16,
 }
@@ -72,7 +72,7 @@ impl Head {
             arguments: usize::from(byte(bytes, at + 2)),
             variables: usize::from(byte(bytes, at + 3)),
             stack: usize::from(byte(bytes, at + 4)),
-            zero: byte(bytes, at + 5),
+            fields: usize::from(byte(bytes, at + 5)),
             code: word(bytes, at + 6),
         }
     }
@@ -88,18 +88,23 @@ impl Head {
     }
 
     /// Where the descriptor of an argument stands.
-    pub fn descriptor(&self, argument: usize) -> usize {
+    pub fn argument(&self, argument: usize) -> usize {
         self.offset + argument
+    }
+
+    /// Where the descriptor of a field stands.
+    pub fn field(&self, field: usize) -> usize {
+        self.argument(self.arguments) + field
     }
 
     /// Where the instruction of an address, counted from 1, stands.
     pub fn instruction(&self, address: u16) -> usize {
-        self.offset + self.arguments + 4 * (usize::from(address) - 1)
+        self.field(self.fields) + 4 * (usize::from(address) - 1)
     }
 
     /// Where the row of an address begins, which is where its variables do.
     pub fn row(&self, address: u16) -> usize {
-        let rows = self.offset + self.arguments + 4 * usize::from(self.code);
+        let rows = self.field(self.fields) + 4 * usize::from(self.code);
         rows + (usize::from(address) - 1) * self.width()
     }
 

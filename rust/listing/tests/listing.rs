@@ -1,11 +1,11 @@
 //! Listings of bundles made by hand and of generated ones.
 
-use generator::builder::{Draft, Method, Row};
+use generator::builder::{lay_out, Draft, Method, Row};
 use generator::families;
 use listing::Program;
 use reference::bundle::INT;
 use reference::entries::Entry;
-use reference::instructions::{Addr, Instr, Var};
+use reference::instructions::{Addr, Field, Instr, Var};
 use reference::verify::verify;
 
 fn bundle() -> Vec<u8> {
@@ -31,6 +31,7 @@ fn bundle() -> Vec<u8> {
         stack_limit: 0,
         code: vec![Instr::Load(Var(1)), Instr::Return],
         rows: vec![Row::new(&[Entry::Int, Entry::Top], &[]); 2],
+        ..Method::default()
     };
     let draft = Draft {
         methods: vec![main, other],
@@ -59,15 +60,52 @@ class 1: arguments Int C0, variables 2, stack 0
 #[test]
 fn what_is_malformed_is_listed_too() {
     let mut bundle = bundle();
-    bundle[0] = 13; // the first opcode
+    bundle[0] = 15; // the first opcode
     bundle[12] = 9; // the first kind
     bundle[16] = 3; // the first depth, above K
     bundle[29] = 1; // the second row's depth
     let text = Program::new(&bundle).to_string();
     let lines: Vec<&str> = text.lines().skip(3).take(2).collect();
-    let first = "1  none[0D 01 00 03]  malformed[09 00 00 00]  | blank blank (depth 3, limit 2)";
+    let first = "1  none[0F 01 00 03]  malformed[09 00 00 00]  | blank blank (depth 3, limit 2)";
     assert_eq!(lines[0].trim(), first);
     assert!(lines[1].ends_with("| Int (unused: C0(0,0))"), "{text}");
+}
+
+#[test]
+fn fields_and_null_are_listed() {
+    let field = Field {
+        class: 0,
+        number: 1,
+    };
+    let method = Method {
+        fields: vec![INT, 0],
+        variables: 1,
+        stack_limit: 2,
+        code: vec![
+            Instr::Getfield(field, None),
+            Instr::Putfield(field, Some(Addr(4))),
+            Instr::Enter(Var(0), Some(Addr(4))),
+            Instr::Return,
+        ],
+        rows: vec![
+            Row::new(&[Entry::Nullable { class: 0 }], &[]),
+            Row::new(&[Entry::Top], &[Entry::Nullable { class: 0 }]),
+            Row::new(&[Entry::Top], &[]),
+            Row::new(&[Entry::Top], &[]),
+        ],
+        ..Method::default()
+    };
+    let listed = "\
+thrown: class 0
+
+class 0: arguments none, fields Int C0, variables 1, stack 2
+  1  getfield C0.1              C0?  |
+  2  putfield C0.1, handler 4   Top  | C0?
+  3  monitorenter 0, handler 4  Top  |
+  4  return                     Top  |
+";
+    let bundle = lay_out(&[method]);
+    assert_eq!(Program::new(&bundle).to_string(), listed);
 }
 
 /// Whatever the verdict behind the container is.

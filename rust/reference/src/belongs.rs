@@ -1,14 +1,14 @@
 //! Whether a state is one of a bundle: answer 18.
 
 use crate::bundle::Bundle;
-use crate::state::{State, Thread, Value, MAX_COUNT, OBJECTS, THROWN_BY_NEW};
+use crate::state::{State, Thread, Value, MAX_COUNT, OBJECTS, OBJECT_0};
 
 /// Whether the state is one of this bundle; if not, the answer is 18.
 pub fn belongs(bundle: &Bundle, state: &State) -> bool {
     let objects = usize::from(state.objects);
     objects <= OBJECTS
-        && state.objects > THROWN_BY_NEW
-        && state.classes[usize::from(THROWN_BY_NEW)] == bundle.exception()
+        && state.objects > OBJECT_0
+        && state.classes[usize::from(OBJECT_0)] == bundle.exception()
         && state.classes[..objects]
             .iter()
             .all(|&class| class < bundle.count())
@@ -16,6 +16,7 @@ pub fn belongs(bundle: &Bundle, state: &State) -> bool {
             .threads
             .iter()
             .all(|t| !t.live || thread_belongs(bundle, t, state.objects))
+        && (0..objects).all(|object| fields_belong(bundle, state, object))
         && counts_belong(state)
 }
 
@@ -25,13 +26,22 @@ fn thread_belongs(bundle: &Bundle, thread: &Thread, objects: u8) -> bool {
     }
     let class = bundle.class(thread.class);
     let depth = usize::from(thread.depth);
-    let points_somewhere = |value: &Value| !matches!(*value, Value::Ref(o) if o >= objects);
     (1..=class.code_length()).contains(&thread.address)
         && depth <= class.stack_limit
-        && thread.variables[..class.variables]
-            .iter()
-            .all(points_somewhere)
-        && thread.stack[..depth].iter().all(points_somewhere)
+        && all_point_somewhere(&thread.variables[..class.variables], objects)
+        && all_point_somewhere(&thread.stack[..depth], objects)
+}
+
+/// The fields that the object's class uses refer to objects that there are.
+fn fields_belong(bundle: &Bundle, state: &State, object: usize) -> bool {
+    let used = bundle.class(state.classes[object]).fields.len();
+    all_point_somewhere(&state.fields_of(object)[..used], state.objects)
+}
+
+/// No value is a reference to an object that there isn't.
+fn all_point_somewhere(values: &[Value], objects: u8) -> bool {
+    let mut values = values.iter();
+    !values.any(|&value| matches!(value, Value::Ref(object) if object >= objects))
 }
 
 /// Counts are in bounds, by live threads, and an object that there is has at

@@ -1,17 +1,17 @@
 //! Trailer, directory, records and instructions: verdicts 1 to 7.
 
 use crate::entries::Raw;
-use crate::instructions::{ends_path, Bounds};
+use crate::instructions::{ends_path, Bounds, MAX_FIELDS};
 use std::fmt::{self, Display, Formatter};
 
-pub use crate::instructions::{Addr, Instr, Var};
+pub use crate::instructions::{Addr, Field, Instr, Var};
 
 pub const MAX_LENGTH: usize = 65_535;
 pub const MAX_CLASSES: usize = 8;
 pub const TRAILER: usize = 8;
 pub const DIRECTORY_ENTRY: usize = 8;
 pub const MAGIC: [u8; 2] = [0x4C, 0x4B];
-/// The argument descriptor of Int; any other is a class number.
+/// The descriptor of Int, for arguments and fields; any other is a class number.
 pub const INT: u8 = 0xFF;
 
 /// What the verifier says: number, the class and address it names, and for
@@ -67,6 +67,7 @@ pub struct Limits {
     pub arguments: usize,
     pub variables: usize,
     pub stack: usize,
+    pub fields: usize,
     pub code: usize,
 }
 
@@ -77,6 +78,7 @@ pub struct Class<'a> {
     pub offset: usize,
     pub record: &'a [u8],
     pub arguments: &'a [u8],
+    pub fields: &'a [u8],
     pub variables: usize,
     pub stack_limit: usize,
     code: &'a [Raw],
@@ -124,6 +126,7 @@ impl Limits {
             arguments: usize::from(entry[2]),
             variables: usize::from(entry[3]),
             stack: usize::from(entry[4]),
+            fields: usize::from(entry[5]),
             code: two(entry, 6),
         }
     }
@@ -133,6 +136,7 @@ impl Limits {
         self.arguments <= self.variables
             && self.variables <= 16
             && self.stack <= 16
+            && self.fields <= MAX_FIELDS
             && (1..=256).contains(&self.code)
             && (class != 0 || self.arguments == 0)
     }
@@ -142,18 +146,20 @@ impl Limits {
     }
 
     pub fn record_length(&self) -> usize {
-        self.arguments + 4 * self.code + self.code * self.row_length()
+        self.arguments + self.fields + 4 * self.code + self.code * self.row_length()
     }
 }
 
 impl<'a> Class<'a> {
     fn from_record(record: &'a [u8], limits: &Limits) -> Class<'a> {
         let (arguments, rest) = record.split_at(limits.arguments);
+        let (fields, rest) = rest.split_at(limits.fields);
         let (code, rows) = rest.split_at(4 * limits.code);
         Class {
             offset: limits.offset,
             record,
             arguments,
+            fields,
             variables: limits.variables,
             stack_limit: limits.stack,
             code: code.as_chunks().0,
@@ -188,8 +194,8 @@ impl<'a> Class<'a> {
     }
 
     /// The first address at which the table is broken (verdict 7).
-    fn table_breach(&self, classes: u8) -> Option<u16> {
-        let bounds = Bounds::new(self.variables, classes, self.code_length());
+    fn table_breach(&self, classes: u8, fields: u32) -> Option<u16> {
+        let bounds = Bounds::new(self.variables, classes, fields, self.code_length());
         let broken = self.code.iter().position(|&raw| !bounds.allow(raw));
         match broken {
             Some(index) => Some(index as u16 + 1),
@@ -238,12 +244,20 @@ impl<'a> Bundle<'a> {
 
     /// Verdict 7 over all classes and addresses.
     fn check_code(&self) -> Result<(), Verdict> {
+        let fields = self.field_operands();
         for (number, class) in self.classes() {
-            if let Some(address) = class.table_breach(self.count) {
+            if let Some(address) = class.table_breach(self.count, fields) {
                 return Err(Verdict::new(7, number, address));
             }
         }
         Ok(())
+    }
+
+    /// A bit for each operand that names a field.
+    fn field_operands(&self) -> u32 {
+        self.classes()
+            .map(|(number, class)| ((1 << class.fields.len()) - 1) << (MAX_FIELDS as u8 * number))
+            .sum()
     }
 
     pub fn count(&self) -> u8 {
@@ -257,6 +271,11 @@ impl<'a> Bundle<'a> {
 
     pub fn class(&self, number: u8) -> &Class<'a> {
         &self.classes[..usize::from(self.count)][usize::from(number)]
+    }
+
+    /// What a field may hold: Int, or references of a class.
+    pub fn descriptor(&self, field: Field) -> u8 {
+        self.class(field.class).fields[usize::from(field.number)]
     }
 
     pub fn classes(&self) -> impl Iterator<Item = (u8, &Class<'a>)> {
@@ -297,14 +316,15 @@ fn read_class<'a>(
     count: u8,
 ) -> Result<Class<'a>, Verdict> {
     let limits = Limits::read(entry);
-    if !limits.hold(class) || entry[5] != 0 {
+    if !limits.hold(class) {
         return Err(Verdict::new(4, class, 0));
     }
     let record = body
         .get(limits.offset..limits.offset + limits.record_length())
         .ok_or(Verdict::new(5, class, 0))?;
     let view = Class::from_record(record, &limits);
-    if view.arguments.iter().any(|&d| d != INT && d >= count) {
+    let mut descriptors = view.arguments.iter().chain(view.fields);
+    if descriptors.any(|&d| d != INT && d >= count) {
         return Err(Verdict::new(6, class, 0));
     }
     Ok(view)

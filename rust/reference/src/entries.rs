@@ -1,6 +1,7 @@
 //! The four-byte entries of a row, and how one compares with another.
 
-use crate::slips::{Law, Slip};
+use crate::bundle::INT;
+use crate::slips::{AsWritten, Law, Slip};
 
 /// An entry as it stands in the bundle.
 pub type Raw = [u8; 4];
@@ -10,6 +11,7 @@ pub mod kind {
     pub const INT: u8 = 1;
     pub const TOP: u8 = 2;
     pub const REFERENCE: u8 = 3;
+    pub const NULLABLE: u8 = 4;
 }
 
 /// Stack entries below the depth in use.
@@ -50,7 +52,14 @@ pub fn ask(holds: bool) -> Outcome {
 pub enum Entry {
     Int,
     Top,
-    Ref { class: u8, pair: Pair },
+    Ref {
+        class: u8,
+        pair: Pair,
+    },
+    /// A reference that may be null; it weighs (0,0).
+    Nullable {
+        class: u8,
+    },
 }
 
 /// A reference's pair: the dip d and the end e.
@@ -96,13 +105,16 @@ impl Pair {
 }
 
 /// Whether the four bytes are Int, Top or a reference to one of the bundle's
-/// `classes`; anything else draws verdict 8.
+/// `classes`, which may be null or not; anything else draws verdict 8.
 pub fn well_formed(raw: Raw, classes: u8) -> bool {
     let [first, class, dip, end] = raw;
     // Kinds follow no pattern, so the tests are joined without branches.
     let plain = (first == kind::INT) | (first == kind::TOP);
     let reference = (class < classes) & (dip <= 63) & (1..=127).contains(&end);
-    (plain & (class | dip | end == 0)) | ((first == kind::REFERENCE) & reference)
+    let nullable = (class < classes) & (dip | end == 0);
+    (plain & (class | dip | end == 0))
+        | ((first == kind::REFERENCE) & reference)
+        | ((first == kind::NULLABLE) & nullable)
 }
 
 impl Entry {
@@ -111,6 +123,7 @@ impl Entry {
         match raw[0] {
             kind::INT => Entry::Int,
             kind::TOP => Entry::Top,
+            kind::NULLABLE => Entry::Nullable { class: raw[1] },
             _ => Entry::Ref {
                 class: raw[1],
                 pair: Pair::new(i16::from(raw[2]), i16::from(raw[3]) - END_BIAS),
@@ -127,6 +140,7 @@ impl Entry {
                 let end = (pair.end + END_BIAS) as u8;
                 [kind::REFERENCE, class, pair.dip as u8, end]
             }
+            Entry::Nullable { class } => [kind::NULLABLE, class, 0, 0],
         }
     }
 
@@ -145,57 +159,99 @@ impl Entry {
         }
     }
 
-    /// A reference of this class, whatever its pair.
+    /// A reference of this class that is not null, whatever its pair.
     pub fn is_of(self, wanted: u8) -> bool {
         matches!(self, Entry::Ref { class, .. } if class == wanted)
     }
 
+    /// Null or a reference of this class.
+    pub fn may_be_of(self, wanted: u8) -> bool {
+        self.is_of(wanted) || self == Entry::Nullable { class: wanted }
+    }
+
+    /// What a field of this descriptor gives.
+    pub const fn held(descriptor: u8) -> Entry {
+        match descriptor {
+            INT => Entry::Int,
+            class => Entry::Nullable { class },
+        }
+    }
+
     /// The rule "Fits", and what is short where it fails.
-    pub fn compare(self, next: Entry) -> Outcome {
+    pub fn compare<L: Law>(self, next: Entry) -> Outcome {
         match (self, next) {
             (Entry::Int | Entry::Top, Entry::Top) | (Entry::Int, Entry::Int) => Ok(()),
-            (Entry::Ref { pair, .. }, Entry::Top) if pair.end < 0 => Err(Why::End),
-            (Entry::Ref { .. }, Entry::Top) => Ok(()),
+            (Entry::Nullable { class }, _) => nullable_fits::<L>(class, next),
             (Entry::Ref { class, pair }, Entry::Ref { .. }) => {
                 pair.covers(next.weight_after(class)?)
+            }
+            (Entry::Ref { class, pair }, _) => {
+                next.weight_after(class)?;
+                // Its dip is dropped, whatever it is.
+                match pair.end < 0 && !owing_fits::<L>(next) {
+                    true => Err(Why::End),
+                    false => Ok(()),
+                }
             }
             _ => Err(Why::Kind),
         }
     }
 
     pub fn fits(self, next: Entry) -> bool {
-        self.compare(next).is_ok()
+        self.compare::<AsWritten>(next).is_ok()
     }
 
     /// The rule "May go".
     pub fn may_go<L: Law>(self) -> bool {
         match self {
-            Entry::Int | Entry::Top => true,
+            Entry::Int | Entry::Top | Entry::Nullable { .. } => true,
             Entry::Ref { pair, .. } => pair.end >= -i16::from(L::slips(Slip::MayGoMinusOne)),
         }
     }
 
     /// What this entry weighs as the next one of a reference to `class`:
-    /// its pair, or (0,0) as Top; anything else can't follow.
+    /// its pair, or (0,0) as Top or as one that may be null; anything else
+    /// can't follow.
     pub fn weight_after(self, class: u8) -> Result<Pair, Why> {
         match self {
             Entry::Top => Ok(Pair::ZERO),
+            Entry::Nullable { class: own } if own == class => Ok(Pair::ZERO),
             Entry::Ref { class: own, pair } if own == class => Ok(pair),
             _ => Err(Why::Kind),
         }
     }
 }
 
+/// A reference to `class` that may be null becomes Top or stays what it is.
+fn nullable_fits<L: Law>(class: u8, next: Entry) -> Outcome {
+    let fits = match next {
+        Entry::Top => true,
+        Entry::Nullable { class: own } => own == class || L::slips(Slip::NullableFitsAnyClass),
+        Entry::Ref { class: own, pair } => {
+            own == class && pair == Pair::ZERO && L::slips(Slip::NullableFitsReference)
+        }
+        Entry::Int => false,
+    };
+    match fits {
+        true => Ok(()),
+        false => Err(Why::Kind),
+    }
+}
+
+fn owing_fits<L: Law>(next: Entry) -> bool {
+    L::slips(Slip::OwingFitsNullable) && matches!(next, Entry::Nullable { .. })
+}
+
 /// Each entry fits its place; else what is short at the first that doesn't.
 /// Both sides have equally many.
-pub fn all_fit(row: &[Raw], next: &[Raw]) -> Outcome {
+pub fn all_fit<L: Law>(row: &[Raw], next: &[Raw]) -> Outcome {
     // Fits is reflexive, and most entries stay as they are: equal bytes suffice.
     if row == next {
         return Ok(());
     }
     row.iter().zip(next).try_for_each(|(&a, &b)| match a == b {
         true => Ok(()),
-        false => Entry::read(a).compare(Entry::read(b)),
+        false => Entry::read(a).compare::<L>(Entry::read(b)),
     })
 }
 

@@ -1,9 +1,10 @@
 //! The machine: a fresh state, and one step of one thread.
 
 use crate::belongs::belongs;
-use crate::bundle::{Addr, Bundle, Class, Instr, Var, INT};
+use crate::bundle::{Addr, Bundle, Class, Field, Instr, Var, INT};
+use crate::instructions::MAX_FIELDS;
 use crate::slips::{AsWritten, Law, Slip};
-use crate::state::{MAX_COUNT, OBJECTS, PLACES, THREADS, THROWN_BY_NEW};
+use crate::state::{MAX_COUNT, OBJECTS, OBJECT_0, PLACES, THREADS};
 use std::marker::PhantomData;
 
 pub use crate::state::{State, Thread, Value};
@@ -34,8 +35,9 @@ pub fn fresh(b: &[u8]) -> (u8, State) {
     };
     state.threads[0].live = true;
     state.threads[0].address = 1;
-    state.objects = 1;
-    state.classes[usize::from(THROWN_BY_NEW)] = bundle.exception();
+    let exception = bundle.exception();
+    let object = state.add_object(exception);
+    state.unset_fields(object, bundle.class(exception));
     (answer::WENT_ON, state)
 }
 
@@ -107,7 +109,7 @@ impl<L: Law> Turn<'_, L> {
             }
             Instr::Pop | Instr::Store(_) => self.wants(state, 1),
             Instr::Push0 | Instr::Load(_) => self.wants_room(state, class),
-            Instr::Enter(v) => self.refuses_enter(state, v),
+            Instr::Enter(v, handler) => self.refuses_enter(state, class, v, handler),
             Instr::Exit(v) => self.refuses_exit(state, v),
             Instr::New(_, handler) if self.new_fails(state) => {
                 self.refuses_throw(state, class, handler)
@@ -121,6 +123,17 @@ impl<L: Law> Turn<'_, L> {
                 self.refuses_throw(state, class, handler)
             }
             Instr::Return => self.wants_end(state),
+            Instr::Getfield(field, handler) => {
+                self.wants(state, 1)?;
+                self.refuses_access(state, class, field, 0, handler)
+            }
+            Instr::Putfield(field, handler) => {
+                self.wants(state, 2)?;
+                let value = self.thread(state).peek(0);
+                let descriptor = self.bundle.descriptor(field);
+                self.wants_kind(may_be_put(state, value, descriptor))?;
+                self.refuses_access(state, class, field, 1, handler)
+            }
         }
     }
 
@@ -163,40 +176,71 @@ impl<L: Law> Turn<'_, L> {
         self.fails || usize::from(state.objects) >= OBJECTS
     }
 
-    /// The object whose count monitorenter or monitorexit moves.
-    fn locked(&self, state: &State, v: Var) -> Result<usize, u8> {
+    /// The object whose count monitorenter or monitorexit moves; none is null.
+    fn locked(&self, state: &State, v: Var) -> Result<Option<usize>, u8> {
         match self.thread(state).variables[usize::from(v.0)] {
-            Value::Ref(_) if L::slips(Slip::CountByVariable) => Ok(usize::from(v.0)),
-            Value::Ref(object) => Ok(usize::from(object)),
+            Value::Ref(_) if L::slips(Slip::CountByVariable) => Ok(Some(usize::from(v.0))),
+            Value::Ref(object) => Ok(Some(usize::from(object))),
+            Value::Null => Ok(None),
             Value::Int(_) => Err(answer::WRONG_KIND),
         }
     }
 
-    fn refuses_enter(&self, state: &State, v: Var) -> Result<(), u8> {
-        let object = self.locked(state, v)?;
+    fn held_elsewhere(&self, state: &State, object: usize) -> bool {
+        (0..THREADS).any(|t| t != self.mover && state.count(t, object) > 0)
+    }
+
+    fn refuses_enter(
+        &self,
+        state: &State,
+        class: &Class,
+        v: Var,
+        handler: Option<Addr>,
+    ) -> Result<(), u8> {
+        let Some(object) = self.locked(state, v)? else {
+            self.refuses_throw(state, class, handler)?;
+            let waits =
+                L::slips(Slip::NullWaits) && self.held_elsewhere(state, usize::from(OBJECT_0));
+            return refuse_unless(!waits, answer::HELD);
+        };
         let own = state.count(self.mover, object);
-        let held_elsewhere = (0..THREADS).any(|t| t != self.mover && state.count(t, object) > 0);
         refuse_unless(own < MAX_COUNT, answer::COUNT_FULL)?;
-        refuse_unless(!held_elsewhere, answer::HELD)?;
+        refuse_unless(!self.held_elsewhere(state, object), answer::HELD)?;
         refuse_unless(!(L::slips(Slip::ReentryWaits) && own > 0), answer::HELD)
     }
 
     fn refuses_exit(&self, state: &State, v: Var) -> Result<(), u8> {
-        let object = self.locked(state, v)?;
-        refuse_unless(state.count(self.mover, object) > 0, answer::EXIT_AT_ZERO)
+        match self.locked(state, v)? {
+            Some(object) => {
+                refuse_unless(state.count(self.mover, object) > 0, answer::EXIT_AT_ZERO)
+            }
+            None => Err(answer::WRONG_KIND),
+        }
+    }
+
+    /// The owner lies so far below the top; null is thrown.
+    fn refuses_access(
+        &self,
+        state: &State,
+        class: &Class,
+        field: Field,
+        below: usize,
+        handler: Option<Addr>,
+    ) -> Result<(), u8> {
+        match self.thread(state).peek(below) {
+            Value::Null => self.refuses_throw(state, class, handler),
+            owner => self.wants_kind(state.is_of_class(owner, field.class)),
+        }
     }
 
     fn refuses_start(&self, state: &State, class: u8) -> Result<(), u8> {
         let descriptors = self.bundle.class(class).arguments;
         self.wants(state, descriptors.len() + 1)?;
         let thread = self.thread(state);
-        let arguments_match = descriptors.iter().enumerate().all(|(i, &descriptor)| {
-            let value = thread.peek(i);
-            match descriptor {
-                INT => matches!(value, Value::Int(_)),
-                wanted => state.is_of_class(value, wanted),
-            }
-        });
+        let arguments_match = descriptors
+            .iter()
+            .enumerate()
+            .all(|(i, &descriptor)| is_as_told(state, thread.peek(i), descriptor));
         let object = thread.peek(descriptors.len());
         self.wants_kind(arguments_match && state.is_of_class(object, class))?;
         refuse_unless(
@@ -207,34 +251,45 @@ impl<L: Law> Turn<'_, L> {
 
     /// What the step changes; nothing refuses any more.
     fn go(&self, state: &mut State, class: &Class, instr: Instr) -> u8 {
+        if let Some((thrown, handler)) = self.thrown(state, instr) {
+            return self.throw(state, class, handler, thrown);
+        }
         match instr {
-            Instr::Enter(v) => self.move_count(state, v, |count| count + 1),
+            Instr::Enter(v, _) => self.move_count(state, v, |count| count + 1),
             Instr::Exit(v) => self.move_count(state, v, |count| count - 1),
-            Instr::New(_, handler) if self.new_fails(state) => {
-                return self.throw(state, class, handler, Value::Ref(THROWN_BY_NEW));
-            }
             Instr::New(c, _) => self.make(state, c),
             Instr::Start(c) => self.start(state, c),
-            Instr::Athrow(handler) => {
-                let top = self.thread(state).peek(0);
-                return self.throw(state, class, handler, top);
-            }
+            Instr::Getfield(field, _) => self.getfield(state, field),
+            Instr::Putfield(field, _) => self.putfield(state, field),
             Instr::Return => {
                 self.end(state, class);
                 return answer::RETURNED;
             }
-            Instr::Inc
-            | Instr::Pop
-            | Instr::Push0
-            | Instr::Load(_)
-            | Instr::Store(_)
-            | Instr::If(_) => {
-                self.compute(&mut state.threads[self.mover], instr);
+            own => {
+                self.compute(&mut state.threads[self.mover], own);
                 return answer::WENT_ON;
             }
         }
         state.threads[self.mover].address += 1;
         answer::WENT_ON
+    }
+
+    /// What the step throws, and the handler: athrow's top; object 0 where new
+    /// fails, and where null stands for an object to lock or to own a field.
+    fn thrown(&self, state: &State, instr: Instr) -> Option<(Value, Option<Addr>)> {
+        let thread = self.thread(state);
+        let (fails, handler) = match instr {
+            Instr::Athrow(handler) => return Some((thread.peek(0), handler)),
+            Instr::New(_, handler) => (self.new_fails(state), handler),
+            Instr::Enter(v, handler) => {
+                let variable = thread.variables[usize::from(v.0)];
+                (variable == Value::Null, handler)
+            }
+            Instr::Getfield(_, handler) => (thread.peek(0) == Value::Null, handler),
+            Instr::Putfield(_, handler) => (thread.peek(1) == Value::Null, handler),
+            _ => return None,
+        };
+        fails.then_some((Value::Ref(OBJECT_0), handler))
     }
 
     /// The instructions that touch nothing but their own thread.
@@ -263,16 +318,34 @@ impl<L: Law> Turn<'_, L> {
     }
 
     fn move_count(&self, state: &mut State, v: Var, change: impl Fn(u16) -> u16) {
-        if let Ok(object) = self.locked(state, v) {
+        if let Ok(Some(object)) = self.locked(state, v) {
             let count = &mut state.counts[self.mover * OBJECTS + object];
             *count = change(*count);
         }
     }
 
     fn make(&self, state: &mut State, class: u8) {
-        state.classes[usize::from(state.objects)] = class;
-        state.threads[self.mover].push(Value::Ref(state.objects));
-        state.objects += 1;
+        let object = state.add_object(class);
+        if !L::slips(Slip::NewLeavesFields) {
+            state.unset_fields(object, self.bundle.class(class));
+        }
+        state.threads[self.mover].push(Value::Ref(object));
+    }
+
+    /// The owner makes way for what its field holds.
+    fn getfield(&self, state: &mut State, field: Field) {
+        if let Value::Ref(owner) = state.threads[self.mover].pop() {
+            let value = state.fields[place(owner, field)];
+            state.threads[self.mover].push(value);
+        }
+    }
+
+    fn putfield(&self, state: &mut State, field: Field) {
+        let thread = &mut state.threads[self.mover];
+        let value = thread.pop();
+        if let Value::Ref(owner) = thread.pop() {
+            state.fields[place(owner, field)] = value;
+        }
     }
 
     /// The lowest free thread begins; its stack places are left alone.
@@ -327,4 +400,25 @@ fn refuse_unless(holds: bool, refusal: u8) -> Result<(), u8> {
     } else {
         Err(refusal)
     }
+}
+
+/// An integer for the descriptor FF, else an object of that class.
+fn is_as_told(state: &State, value: Value, descriptor: u8) -> bool {
+    match descriptor {
+        INT => matches!(value, Value::Int(_)),
+        class => state.is_of_class(value, class),
+    }
+}
+
+/// As told, or null for a class.
+fn may_be_put(state: &State, value: Value, descriptor: u8) -> bool {
+    match value {
+        Value::Null => descriptor != INT,
+        _ => is_as_told(state, value, descriptor),
+    }
+}
+
+/// Where the field of an object stands.
+fn place(owner: u8, field: Field) -> usize {
+    usize::from(owner) * MAX_FIELDS + usize::from(field.number)
 }

@@ -5,7 +5,7 @@
 //! in the order that decides which misfit is told: row l+1 before another
 //! row, in each the variables ascending, then the stack from the top.
 
-use crate::bundle::{Addr, Bundle, Class, Instr, Row, Var, INT};
+use crate::bundle::{Addr, Bundle, Class, Field, Instr, Row, Var, INT};
 use crate::entries::{all_fit, all_may_go, ask, Entry, Outcome, Pair, Raw, Why, MAX_WEIGHT};
 use crate::slips::{Law, Slip};
 use crate::throws::Throw;
@@ -37,15 +37,16 @@ pub fn check<L: Law>(bundle: &Bundle, class: &Class, address: Addr) -> Outcome {
     // Only athrow and return may stand at address k; they look at no next row.
     let next = || class.row(Addr(address.0 + 1));
     let at = |handler: Option<Addr>| handler.map(|address| class.row(address));
+    let by_null = |handler| Throw::by_null::<L>(row, at(handler), bundle.exception());
     match class.instruction(address) {
-        Instr::Inc => inc(row, next()),
+        Instr::Inc => inc::<L>(row, next()),
         Instr::Pop => pop::<L>(row, next()),
-        Instr::Push0 => push0(row, next()),
+        Instr::Push0 => push0::<L>(row, next()),
         Instr::Load(v) => load::<L>(row, next(), v),
         Instr::Store(v) => store::<L>(row, next(), v),
         Instr::If(target) => branch::<L>(row, next(), class.row(target)),
-        Instr::Enter(v) => lock(row, next(), v, Pair::entered),
-        Instr::Exit(v) => lock(row, next(), v, exited::<L>),
+        Instr::Enter(v, handler) => enter::<L>(row, next(), v, by_null(handler)),
+        Instr::Exit(v) => exit::<L>(row, next(), v),
         Instr::New(c, handler) => {
             let failed = Throw::by_new::<L>(row, at(handler), bundle.exception());
             new::<L>(row, next(), c, failed)
@@ -57,6 +58,14 @@ pub fn check<L: Law>(bundle: &Bundle, class: &Class, address: Addr) -> Outcome {
             throw.fits::<L>()
         }
         Instr::Return => ends::<L>(row),
+        Instr::Getfield(field, handler) => {
+            let pushed = gotten::<L>(bundle.descriptor(field));
+            getfield::<L>(row, next(), field, pushed, by_null(handler))
+        }
+        Instr::Putfield(field, handler) => {
+            let descriptor = bundle.descriptor(field);
+            putfield::<L>(row, next(), field, descriptor, by_null(handler))
+        }
     }
 }
 
@@ -82,51 +91,51 @@ impl<'a, const T: usize, const G: usize> Stacks<'a, T, G> {
         })
     }
 
-    fn rest_fits(&self) -> Outcome {
-        all_fit(self.rest, self.next_rest)
+    fn rest_fits<L: Law>(&self) -> Outcome {
+        all_fit::<L>(self.rest, self.next_rest)
     }
 }
 
-fn variables_fit(row: Row, next: Row) -> Outcome {
-    all_fit(row.variables, next.variables)
+fn variables_fit<L: Law>(row: Row, next: Row) -> Outcome {
+    all_fit::<L>(row.variables, next.variables)
 }
 
 /// The variables in their order, `v` by a comparison of its own.
-fn variables_fit_but(row: Row, next: Row, v: Var, own: Outcome) -> Outcome {
+fn variables_fit_but<L: Law>(row: Row, next: Row, v: Var, own: Outcome) -> Outcome {
     let at = usize::from(v.0);
-    all_fit(&row.variables[..at], &next.variables[..at])?;
+    all_fit::<L>(&row.variables[..at], &next.variables[..at])?;
     own?;
-    all_fit(&row.variables[at + 1..], &next.variables[at + 1..])
+    all_fit::<L>(&row.variables[at + 1..], &next.variables[at + 1..])
 }
 
 fn entry_at(row: Row, v: Var) -> Entry {
     Entry::read(row.variables[usize::from(v.0)])
 }
 
-fn inc(row: Row, next: Row) -> Outcome {
+fn inc<L: Law>(row: Row, next: Row) -> Outcome {
     let stacks = Stacks::<1, 1>::split(row, next)?;
     ask(stacks.taken == [Entry::Int])?;
-    variables_fit(row, next)?;
-    Entry::Int.compare(stacks.given[0])?;
-    stacks.rest_fits()
+    variables_fit::<L>(row, next)?;
+    Entry::Int.compare::<L>(stacks.given[0])?;
+    stacks.rest_fits::<L>()
 }
 
 fn pop<L: Law>(row: Row, next: Row) -> Outcome {
     let stacks = Stacks::<1, 0>::split(row, next)?;
     ask(stacks.taken[0].may_go::<L>())?;
-    variables_fit(row, next)?;
-    stacks.rest_fits()
+    variables_fit::<L>(row, next)?;
+    stacks.rest_fits::<L>()
 }
 
-fn push0(row: Row, next: Row) -> Outcome {
-    pushes(Entry::Int, row, next, Stacks::split(row, next)?)
+fn push0<L: Law>(row: Row, next: Row) -> Outcome {
+    pushes::<L>(Entry::Int, row, next, Stacks::split(row, next)?)
 }
 
 /// `entry` fits the new top, the rest fits: push0, and new that succeeds.
-fn pushes(entry: Entry, row: Row, next: Row, stacks: Stacks<0, 1>) -> Outcome {
-    variables_fit(row, next)?;
-    entry.compare(stacks.given[0])?;
-    stacks.rest_fits()
+fn pushes<L: Law>(entry: Entry, row: Row, next: Row, stacks: Stacks<0, 1>) -> Outcome {
+    variables_fit::<L>(row, next)?;
+    entry.compare::<L>(stacks.given[0])?;
+    stacks.rest_fits::<L>()
 }
 
 fn load<L: Law>(row: Row, next: Row, v: Var) -> Outcome {
@@ -135,14 +144,14 @@ fn load<L: Law>(row: Row, next: Row, v: Var) -> Outcome {
     match entry_at(row, v) {
         // Both places are compared at once, at v.
         Entry::Ref { class, pair } => {
-            variables_fit_but(row, next, v, shares::<L>(class, pair, kept, given))?;
+            variables_fit_but::<L>(row, next, v, shares::<L>(class, pair, kept, given))?;
         }
         plain => {
-            variables_fit_but(row, next, v, plain.compare(kept))?;
-            plain.compare(given)?;
+            variables_fit_but::<L>(row, next, v, plain.compare::<L>(kept))?;
+            plain.compare::<L>(given)?;
         }
     }
-    stacks.rest_fits()
+    stacks.rest_fits::<L>()
 }
 
 /// One reference becomes two: its pair is shared out between them.
@@ -158,9 +167,9 @@ fn shares<L: Law>(class: u8, pair: Pair, kept: Entry, given: Entry) -> Outcome {
 fn store<L: Law>(row: Row, next: Row, v: Var) -> Outcome {
     let stacks = Stacks::<1, 0>::split(row, next)?;
     ask(L::slips(Slip::StoreKeepsOld) || entry_at(row, v).may_go::<L>())?;
-    let stored = stacks.taken[0].compare(entry_at(next, v));
-    variables_fit_but(row, next, v, stored)?;
-    stacks.rest_fits()
+    let stored = stacks.taken[0].compare::<L>(entry_at(next, v));
+    variables_fit_but::<L>(row, next, v, stored)?;
+    stacks.rest_fits::<L>()
 }
 
 fn branch<L: Law>(row: Row, next: Row, target: Row) -> Outcome {
@@ -171,23 +180,47 @@ fn branch<L: Law>(row: Row, next: Row, target: Row) -> Outcome {
     let falls = Stacks::<1, 0>::split(row, next)?;
     let jumps = Stacks::<1, 0>::split(row, target)?;
     ask(falls.taken == [Entry::Int])?;
-    variables_fit(row, next)?;
-    falls.rest_fits()?;
-    variables_fit(row, target)?;
-    jumps.rest_fits()
+    variables_fit::<L>(row, next)?;
+    falls.rest_fits::<L>()?;
+    variables_fit::<L>(row, target)?;
+    jumps.rest_fits::<L>()
 }
 
-/// monitorenter and monitorexit: a reference, whose `moved` pair is compared
-/// with its class or Top, which weighs (0,0) here.
-fn lock(row: Row, next: Row, v: Var, moved: impl Fn(Pair) -> Pair) -> Outcome {
+/// On a reference that may be null, the pair is (0,0) and null is thrown.
+fn enter<L: Law>(row: Row, next: Row, v: Var, null: Throw) -> Outcome {
+    match entry_at(row, v) {
+        Entry::Ref { class, pair } => lock::<L>(row, next, v, class, pair.entered()),
+        Entry::Nullable { class } => {
+            null.asks::<L>()?;
+            lock::<L>(row, next, v, class, entered_from_null::<L>())?;
+            null.fits::<L>()
+        }
+        Entry::Int | Entry::Top => Err(Why::Asked),
+    }
+}
+
+fn exit<L: Law>(row: Row, next: Row, v: Var) -> Outcome {
+    match entry_at(row, v) {
+        Entry::Ref { class, pair } => lock::<L>(row, next, v, class, exited::<L>(pair)),
+        _ => Err(Why::Asked),
+    }
+}
+
+/// monitorenter and monitorexit of a reference: its `moved` pair is compared
+/// with its class, or with what weighs (0,0) here.
+fn lock<L: Law>(row: Row, next: Row, v: Var, class: u8, moved: Pair) -> Outcome {
     let stacks = Stacks::<0, 0>::split(row, next)?;
-    let Entry::Ref { class, pair } = entry_at(row, v) else {
-        return Err(Why::Asked);
-    };
     let after = entry_at(next, v).weight_after(class);
-    let own = after.and_then(|weight| moved(pair).covers(weight));
-    variables_fit_but(row, next, v, own)?;
-    stacks.rest_fits()
+    let own = after.and_then(|weight| moved.covers(weight));
+    variables_fit_but::<L>(row, next, v, own)?;
+    stacks.rest_fits::<L>()
+}
+
+fn entered_from_null<L: Law>() -> Pair {
+    match L::slips(Slip::EnteredFromNullIsFree) {
+        true => Pair::ZERO,
+        false => Pair::ZERO.entered(),
+    }
 }
 
 fn exited<L: Law>(pair: Pair) -> Pair {
@@ -205,28 +238,91 @@ fn start<L: Law>(row: Row, next: Row, class: u8, descriptors: &[u8]) -> Outcome 
     let wanted = descriptors.iter().copied().chain([class]);
     let mut pairs = taken.iter().zip(wanted);
     ask(rest.len() == next.stack.len())?;
-    ask(pairs.all(|(&raw, descriptor)| matches(Entry::read(raw), descriptor)))?;
+    ask(pairs.all(|(&raw, descriptor)| matches::<L>(Entry::read(raw), descriptor)))?;
     ask(all_may_go::<L>(taken))?;
-    variables_fit(row, next)?;
-    all_fit(rest, next.stack)
+    variables_fit::<L>(row, next)?;
+    all_fit::<L>(rest, next.stack)
 }
 
-/// Int for the descriptor FF, else a reference of that class.
-fn matches(entry: Entry, descriptor: u8) -> bool {
+/// Int for the descriptor FF, else a reference of that class, not null.
+fn matches<L: Law>(entry: Entry, descriptor: u8) -> bool {
     match descriptor {
         INT => entry == Entry::Int,
-        class => entry.is_of(class),
+        class => entry.is_of(class) || L::slips(Slip::StartOfNull) && entry.may_be_of(class),
     }
 }
 
 fn new<L: Law>(row: Row, next: Row, class: u8, failed: Throw) -> Outcome {
     let stacks = Stacks::split(row, next)?;
     failed.asks::<L>()?;
-    pushes(Entry::fresh(class), row, next, stacks)?;
+    pushes::<L>(Entry::fresh(class), row, next, stacks)?;
     failed.fits::<L>()
 }
 
 /// return: every entry, variables and stack, may go.
 fn ends<L: Law>(row: Row) -> Outcome {
     ask(all_may_go::<L>(row.variables) && all_may_go::<L>(row.stack))
+}
+
+/// What getfield pushes for this descriptor.
+fn gotten<L: Law>(descriptor: u8) -> Entry {
+    match Entry::held(descriptor) {
+        Entry::Nullable { class } if L::slips(Slip::GetfieldPushesReference) => Entry::fresh(class),
+        held => held,
+    }
+}
+
+/// The owner makes way for what its field holds.
+fn getfield<L: Law>(row: Row, next: Row, field: Field, pushed: Entry, null: Throw) -> Outcome {
+    let stacks = Stacks::<1, 1>::split(row, next)?;
+    let [owner] = stacks.taken;
+    let null = asks_owner::<L>(owner, field.class, null)?;
+    variables_fit::<L>(row, next)?;
+    pushed.compare::<L>(stacks.given[0])?;
+    stacks.rest_fits::<L>()?;
+    null.map_or(Ok(()), |throw| throw.fits::<L>())
+}
+
+/// Value and owner go.
+fn putfield<L: Law>(row: Row, next: Row, field: Field, descriptor: u8, null: Throw) -> Outcome {
+    let stacks = Stacks::<2, 0>::split(row, next)?;
+    let [value, owner] = stacks.taken;
+    ask(value_matches::<L>(value, descriptor))?;
+    ask(value.may_go::<L>() || L::slips(Slip::PutfieldDropsValue))?;
+    let null = asks_owner::<L>(owner, field.class, null)?;
+    variables_fit::<L>(row, next)?;
+    stacks.rest_fits::<L>()?;
+    null.map_or(Ok(()), |throw| throw.fits::<L>())
+}
+
+/// The owner is of the field's class and may go. Where it may be null, the
+/// throw is asked for too, and given back.
+fn asks_owner<'a, L: Law>(
+    owner: Entry,
+    class: u8,
+    null: Throw<'a>,
+) -> Result<Option<Throw<'a>>, Why> {
+    ask(owner.may_be_of(class) || L::slips(Slip::OwnerOfAnyClass) && is_reference(owner))?;
+    ask(owner.may_go::<L>() || L::slips(Slip::FieldDropsOwner))?;
+    match owner {
+        Entry::Nullable { .. } => {
+            null.asks::<L>()?;
+            Ok(Some(null))
+        }
+        _ => Ok(None),
+    }
+}
+
+/// Exactly Int for the descriptor FF, else null or a reference of that class.
+fn value_matches<L: Law>(value: Entry, descriptor: u8) -> bool {
+    match descriptor {
+        INT => value == Entry::Int || L::slips(Slip::PutfieldOfTop) && value == Entry::Top,
+        class => {
+            value.may_be_of(class) || L::slips(Slip::PutfieldOfAnyClass) && is_reference(value)
+        }
+    }
+}
+
+fn is_reference(entry: Entry) -> bool {
+    matches!(entry, Entry::Ref { .. } | Entry::Nullable { .. })
 }

@@ -126,11 +126,43 @@ slips! {
         UncaughtKeepsRest => ENDS_HOLDING,
         /// athrow without handler: the variables aren't asked to go.
         UncaughtKeepsVariables => ENDS_HOLDING,
+        /// A reference that may be null fits one of another class.
+        NullableFitsAnyClass => WRONG_KIND,
+        /// A reference that may be null fits one that may not, with (0,0).
+        NullableFitsReference => WRONG_KIND,
+        /// A reference that owes a lock fits one that may be null.
+        OwingFitsNullable => ENDS_HOLDING,
+        /// start takes references that may be null.
+        StartOfNull => WRONG_KIND,
+        /// Null thrown: the stack isn't asked to go.
+        NullKeepsStack => ENDS_HOLDING,
+        /// Null thrown with a handler: the variables aren't compared.
+        CaughtNullKeepsVariables => ENDS_HOLDING,
+        /// Null thrown without handler: the variables aren't asked to go.
+        UncaughtNullKeepsVariables => ENDS_HOLDING,
+        /// monitorenter on a reference that may be null leaves (0,0).
+        EnteredFromNullIsFree => ENDS_HOLDING,
+        /// getfield pushes a reference that is not null.
+        GetfieldPushesReference => WRONG_KIND,
+        /// getfield and putfield: the owner may be of any class.
+        OwnerOfAnyClass => WRONG_KIND,
+        /// getfield and putfield: the owner isn't asked to go.
+        FieldDropsOwner => ENDS_HOLDING,
+        /// putfield: Top is taken for an integer.
+        PutfieldOfTop => WRONG_KIND,
+        /// putfield: the value may be a reference of any class.
+        PutfieldOfAnyClass => WRONG_KIND,
+        /// putfield: the value isn't asked to go.
+        PutfieldDropsValue => ENDS_HOLDING,
     }
     machine {
         /// A lock is counted at its variable's number, not its object's.
         CountByVariable,
         /// monitorenter by the holder answers 3.
         ReentryWaits,
+        /// A new object's fields keep what their places held.
+        NewLeavesFields,
+        /// monitorenter on null waits while another thread holds object 0.
+        NullWaits,
     }
 }

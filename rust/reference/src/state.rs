@@ -1,22 +1,35 @@
-//! What the machine moves: values, threads, counts and objects.
+//! What the machine moves: values, threads, counts, objects and their fields.
+
+use crate::bundle::{Class, INT};
+use crate::instructions::MAX_FIELDS;
 
 pub const THREADS: usize = 8;
 pub const OBJECTS: usize = 32;
 pub const PLACES: usize = 16;
 pub const MAX_COUNT: u16 = 2_047;
-/// The object that is there from the start, and that a failed new throws.
-pub const THROWN_BY_NEW: u8 = 0;
+/// The object that is there from the start, and that a failed new and null
+/// throw.
+pub const OBJECT_0: u8 = 0;
 
-/// A value: a 32-bit integer or a reference to an object.
+/// A value: a 32-bit integer, a reference to an object, or null.
 #[derive(Clone, Copy, Debug, PartialEq, Eq)]
 pub enum Value {
     Int(i32),
     Ref(u8),
+    Null,
 }
 
 impl Value {
     /// What every place out of use becomes.
     pub const ZERO: Value = Value::Int(0);
+
+    /// What a new object's field of this descriptor holds.
+    fn unset(descriptor: u8) -> Value {
+        match descriptor {
+            INT => Value::ZERO,
+            _ => Value::Null,
+        }
+    }
 }
 
 /// One thread; stack place 0 is the bottom.
@@ -30,13 +43,15 @@ pub struct Thread {
     pub stack: [Value; PLACES],
 }
 
-/// The whole machine; the count of thread t on object o is at t * 32 + o.
+/// The whole machine; the count of thread t on object o is at t * 32 + o, and
+/// field f of object o is at o * 4 + f.
 #[derive(Clone, Debug, PartialEq, Eq)]
 pub struct State {
     pub threads: [Thread; THREADS],
     pub counts: [u16; THREADS * OBJECTS],
     pub objects: u8,
     pub classes: [u8; OBJECTS],
+    pub fields: [Value; OBJECTS * MAX_FIELDS],
 }
 
 impl Thread {
@@ -78,6 +93,7 @@ impl State {
         counts: [0; THREADS * OBJECTS],
         objects: 0,
         classes: [0; OBJECTS],
+        fields: [Value::ZERO; OBJECTS * MAX_FIELDS],
     };
 
     pub fn count(&self, thread: usize, object: usize) -> u16 {
@@ -87,6 +103,29 @@ impl State {
     /// The thread's counts, one for each object.
     pub fn counts_of(&self, thread: usize) -> &[u16] {
         &self.counts[thread * OBJECTS..(thread + 1) * OBJECTS]
+    }
+
+    /// An object's four field places.
+    pub fn fields_of(&self, object: usize) -> &[Value] {
+        &self.fields[object * MAX_FIELDS..(object + 1) * MAX_FIELDS]
+    }
+
+    /// One more object of this class; gives its number.
+    pub(crate) fn add_object(&mut self, class: u8) -> u8 {
+        let object = self.objects;
+        self.classes[usize::from(object)] = class;
+        self.objects += 1;
+        object
+    }
+
+    /// Writes an object's four places: null for those that its class uses for
+    /// references, 0 for the others.
+    pub(crate) fn unset_fields(&mut self, object: u8, class: &Class) {
+        let places = &mut self.fields[usize::from(object) * MAX_FIELDS..][..MAX_FIELDS];
+        places.fill(Value::ZERO);
+        for (place, &descriptor) in places.iter_mut().zip(class.fields) {
+            *place = Value::unset(descriptor);
+        }
     }
 
     pub(crate) fn is_of_class(&self, value: Value, class: u8) -> bool {

@@ -1,5 +1,5 @@
-//! The throw of athrow and of a failed new: what it asks, and what it
-//! compares with the handler's row.
+//! The throw of athrow, of a failed new and of null: what it asks, and what
+//! it compares with the handler's row.
 
 use crate::bundle::Row;
 use crate::entries::{all_fit, all_may_go, ask, Entry, Outcome, Raw, Why};
@@ -16,15 +16,40 @@ pub struct Throw<'a> {
 }
 
 impl<'a> Throw<'a> {
-    /// A failed new hands (0,0) of the exception class.
-    pub fn by_new<L: Law>(row: Row<'a>, handler: Option<Row<'a>>, exception: u8) -> Self {
-        let forgets = handler.is_none() && L::slips(Slip::FailedNewSkipsVariables);
+    /// What is thrown without being there already is (0,0) of the exception
+    /// class.
+    fn of_failure(row: Row<'a>, handler: Option<Row<'a>>, exception: u8) -> Self {
         Throw {
             thrown: Entry::fresh(exception),
             rest: row.stack,
-            variables: if forgets { &[] } else { row.variables },
+            variables: row.variables,
             handler,
         }
+    }
+
+    /// The throw of a failed new.
+    pub fn by_new<L: Law>(row: Row<'a>, handler: Option<Row<'a>>, exception: u8) -> Self {
+        let mut throw = Throw::of_failure(row, handler, exception);
+        if handler.is_none() && L::slips(Slip::FailedNewSkipsVariables) {
+            throw.variables = &[];
+        }
+        throw
+    }
+
+    /// The throw of null where an object is wanted, under the same rule.
+    pub fn by_null<L: Law>(row: Row<'a>, handler: Option<Row<'a>>, exception: u8) -> Self {
+        let mut throw = Throw::of_failure(row, handler, exception);
+        let keeps_variables = match handler {
+            Some(_) => Slip::CaughtNullKeepsVariables,
+            None => Slip::UncaughtNullKeepsVariables,
+        };
+        if L::slips(keeps_variables) {
+            throw.variables = &[];
+        }
+        if L::slips(Slip::NullKeepsStack) {
+            throw.rest = &[];
+        }
+        throw
     }
 
     /// athrow takes the top, a reference of the exception class.
@@ -79,10 +104,10 @@ impl<'a> Throw<'a> {
         let Some(at) = self.handler else {
             return Ok(());
         };
-        all_fit(self.variables, at.variables)?;
+        all_fit::<L>(self.variables, at.variables)?;
         match at.stack.first() {
             Some(&raw) if !L::slips(Slip::HandlerEntryUnchecked) => {
-                self.thrown.compare(Entry::read(raw))
+                self.thrown.compare::<L>(Entry::read(raw))
             }
             _ => Ok(()),
         }

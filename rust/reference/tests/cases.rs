@@ -26,11 +26,11 @@ fn rule_holds(instr: Instr, row: Row, next: Row) -> bool {
     let (variables, stack_limit) = (row.variables.len(), 2);
     let code = vec![instr, Instr::Return];
     let method = Method {
-        arguments: vec![],
         variables,
         stack_limit,
         code,
         rows: vec![row, next],
+        ..Method::default()
     };
     let bytes = lay_out(&[method]);
     let bundle = Bundle::open_with_code(&bytes).expect("the table is kept");
@@ -93,14 +93,18 @@ fn f_store_over_a_held_reference_fails() {
 #[test]
 fn g_and_h_enter_and_exit() {
     let lock = |instr, old, new| rule_holds(instr, Row::new(&[old], &[]), Row::new(&[new], &[]));
-    assert!(lock(Instr::Enter(Var(0)), HELD, Entry::reference(0, 2, -2)));
+    assert!(lock(
+        Instr::Enter(Var(0), None),
+        HELD,
+        Entry::reference(0, 2, -2)
+    ));
     assert!(!lock(
-        Instr::Enter(Var(0)),
+        Instr::Enter(Var(0), None),
         HELD,
         Entry::reference(0, 3, -2)
     ));
     assert!(!lock(
-        Instr::Enter(Var(0)),
+        Instr::Enter(Var(0), None),
         HELD,
         Entry::reference(0, 2, -1)
     ));
@@ -119,12 +123,12 @@ fn lock_rules_weigh_top_as_nothing() {
         Entry::Top
     ));
     assert!(lock(
-        Instr::Enter(Var(0)),
+        Instr::Enter(Var(0), None),
         Entry::reference(0, 0, 1),
         Entry::Top
     ));
-    assert!(!lock(Instr::Enter(Var(0)), FREE, Entry::Top));
-    assert!(!lock(Instr::Enter(Var(0)), Entry::Int, Entry::Top));
+    assert!(!lock(Instr::Enter(Var(0), None), FREE, Entry::Top));
+    assert!(!lock(Instr::Enter(Var(0), None), Entry::Int, Entry::Top));
 }
 
 #[test]

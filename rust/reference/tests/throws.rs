@@ -104,10 +104,10 @@ fn the_spare_byte_names_a_class() {
         bytes[at] = byte;
         judge(&bytes)
     };
-    let (last, zero) = (good.len() - 1, good.len() - 8 - 3);
+    let (last, fields) = (good.len() - 1, good.len() - 8 - 3);
     assert_eq!(changed(last, 0, 2), Verdict::new(2, 0, 0));
-    assert_eq!(changed(zero, 1, 2), Verdict::new(3, 0, 0));
-    assert_eq!(changed(zero, 1, 1), Verdict::new(4, 1, 0));
+    assert_eq!(changed(fields, 5, 2), Verdict::new(3, 0, 0));
+    assert_eq!(changed(fields, 5, 1), Verdict::new(4, 1, 0));
 }
 
 /// Reading 17.
@@ -260,7 +260,7 @@ fn locks_what_it_finds() -> Vec<u8> {
     let code = [
         Instr::New(EXCEPTION, Some(Addr(2))),
         Instr::Store(V),
-        Instr::Enter(V),
+        Instr::Enter(V, None),
         Instr::Exit(V),
         Instr::Return,
     ];
@@ -462,7 +462,7 @@ fn a_lock_may_be_thrown() {
     let code = [
         Instr::New(EXCEPTION, None),
         Instr::Store(V),
-        Instr::Enter(V),
+        Instr::Enter(V, None),
         Instr::Load(V),
         Instr::Athrow(Some(Addr(6))),
         Instr::Store(V),

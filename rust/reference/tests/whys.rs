@@ -287,7 +287,7 @@ fn the_lock_instructions_compare_the_moved_pair() {
         let last = zero(0, 0);
         why(instr, row(&[entry, last], &[]), row(&[next, last], &[]))
     };
-    let (enter, exit) = (Instr::Enter(V), Instr::Exit(V));
+    let (enter, exit) = (Instr::Enter(V, None), Instr::Exit(V));
     assert_eq!(lock(enter, zero(1, -1), zero(2, -2)), None);
     assert_eq!(lock(enter, zero(1, -1), INTEGER), Some(1));
     assert_eq!(lock(enter, zero(1, -1), one(2, -2)), Some(1));

@@ -2,10 +2,10 @@
 
 use crate::Turn;
 use reference::machine::{fresh, step};
-use reference::state::{State, Thread, Value, OBJECTS, PLACES, THREADS};
+use reference::state::{State, Thread, Value, OBJECTS, THREADS};
 use std::fmt::Write;
 
-pub const STATE_BYTES: usize = 1_865;
+pub const STATE_BYTES: usize = 2_505;
 pub const MAX_STEPS: usize = 4_096;
 pub const BAD_INPUT: &str = "bad input\n";
 /// The number of the first step in the output.
@@ -83,6 +83,7 @@ pub fn encode_state(state: &State) -> Vec<u8> {
     out.extend(state.counts.iter().flat_map(|count| count.to_be_bytes()));
     out.push(state.objects);
     out.extend(state.classes);
+    out.extend(state.fields.into_iter().flat_map(encode_value));
     out
 }
 
@@ -93,10 +94,11 @@ fn encode_value(value: Value) -> [u8; 5] {
             [0, a, b, c, d]
         }
         Value::Ref(object) => [1, 0, 0, 0, object],
+        Value::Null => [2, 0, 0, 0, 0],
     }
 }
 
-/// A state of exactly 1,865 bytes.
+/// A state of exactly 2,505 bytes.
 pub fn decode_state(bytes: &[u8]) -> Option<State> {
     let mut rest = bytes;
     let mut state = State::EMPTY;
@@ -108,6 +110,7 @@ pub fn decode_state(bytes: &[u8]) -> Option<State> {
     }
     [state.objects] = take(&mut rest)?;
     state.classes = take(&mut rest)?;
+    decode_values(&mut rest, &mut state.fields)?;
     rest.is_empty().then_some(state)
 }
 
@@ -121,16 +124,23 @@ fn decode_thread(rest: &mut &[u8]) -> Option<Thread> {
     thread.class = class;
     thread.address = u16::from_be_bytes([high, low]);
     thread.depth = depth;
-    for value in thread.variables.iter_mut().chain(&mut thread.stack) {
-        *value = decode_value(take(rest)?)?;
-    }
+    decode_values(rest, &mut thread.variables)?;
+    decode_values(rest, &mut thread.stack)?;
     Some(thread)
+}
+
+fn decode_values(rest: &mut &[u8], places: &mut [Value]) -> Option<()> {
+    for place in places {
+        *place = decode_value(take(rest)?)?;
+    }
+    Some(())
 }
 
 fn decode_value(bytes: [u8; 5]) -> Option<Value> {
     match bytes {
         [0, a, b, c, d] => Some(Value::Int(i32::from_be_bytes([a, b, c, d]))),
         [1, 0, 0, 0, object] => Some(Value::Ref(object)),
+        [2, 0, 0, 0, 0] => Some(Value::Null),
         _ => None,
     }
 }
@@ -197,6 +207,10 @@ pub fn encode_output(output: &Output) -> String {
         &mut text,
         format_args!("objects {} classes {classes}", output.state.objects),
     );
+    line(
+        &mut text,
+        format_args!("fields {}", values_text(&output.state.fields)),
+    );
     text
 }
 
@@ -212,8 +226,7 @@ fn thread_line(text: &mut String, number: usize, thread: &Thread, counts: &[u16]
         ..
     } = thread;
     let live = u8::from(thread.live);
-    let values = |places: &[Value; PLACES]| spaced(&places.map(value_text));
-    let (variables, stack) = (values(&thread.variables), values(&thread.stack));
+    let (variables, stack) = (values_text(&thread.variables), values_text(&thread.stack));
     line(
         text,
         format_args!(
@@ -224,10 +237,26 @@ fn thread_line(text: &mut String, number: usize, thread: &Thread, counts: &[u16]
     );
 }
 
+/// `i-5`, `r3`, `null`.
 fn value_text(value: Value) -> String {
     match value {
         Value::Int(i) => format!("i{i}"),
         Value::Ref(object) => format!("r{object}"),
+        Value::Null => "null".to_string(),
+    }
+}
+
+fn values_text(values: &[Value]) -> String {
+    let texts: Vec<String> = values.iter().copied().map(value_text).collect();
+    texts.join(" ")
+}
+
+fn read_value(text: &str) -> Option<Value> {
+    match text.split_at_checked(1)? {
+        ("n", "ull") => Some(Value::Null),
+        ("i", number) => Some(Value::Int(number.parse().ok()?)),
+        ("r", number) => Some(Value::Ref(number.parse().ok()?)),
+        _ => None,
     }
 }
 
@@ -254,7 +283,10 @@ pub fn decode_output(text: &str) -> Option<Output> {
     state.objects = words.field("objects")?;
     words.word("classes")?;
     words.fill(&mut state.classes)?;
-    (words.0.next().is_none() && lines.next().is_none()).then_some(Output {
+    let mut fields = Words(lines.next()?.split(' '));
+    fields.values("fields", &mut state.fields)?;
+    let ended = words.0.next().is_none() && fields.0.next().is_none();
+    (ended && lines.next().is_none()).then_some(Output {
         fresh,
         steps,
         state,
@@ -309,15 +341,10 @@ impl Words<'_> {
         Some(())
     }
 
-    fn values(&mut self, name: &str, places: &mut [Value; PLACES]) -> Option<()> {
+    fn values(&mut self, name: &str, places: &mut [Value]) -> Option<()> {
         self.word(name)?;
         for place in places {
-            let (kind, number) = self.0.next()?.split_at_checked(1)?;
-            *place = match kind {
-                "i" => Value::Int(number.parse().ok()?),
-                "r" => Value::Ref(number.parse().ok()?),
-                _ => return None,
-            };
+            *place = read_value(self.0.next()?)?;
         }
         Some(())
     }

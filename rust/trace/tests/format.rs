@@ -29,7 +29,9 @@ fn case_a_prints_as_told() {
         )
     );
     assert_eq!(lines[12], format!("objects 2 classes {counts}"));
-    assert_eq!(lines.len(), 13);
+    let fields = "i0 ".repeat(127) + "i0";
+    assert_eq!(lines[13], format!("fields {fields}"));
+    assert_eq!(lines.len(), 14);
 }
 
 #[test]
@@ -80,13 +82,42 @@ fn bad_inputs() {
     };
     assert!(changed(0, 2), "mode");
     assert!(changed(1, 2), "live");
-    assert!(changed(6, 2), "kind");
+    assert!(changed(6, 3), "kind");
     assert!(!changed(6, 1), "a reference");
+    assert!(!changed(6, 2), "null");
+    let field = 1 + STATE_BYTES - 5;
+    assert!(changed(field, 3), "a field's kind");
+    assert!(!changed(field, 2), "a field's null");
     let mut state = State::EMPTY;
     state.threads[0].variables[0] = Value::Ref(7);
     let mut bytes = encode_state(&state);
     bytes[8] = 1;
     assert_eq!(decode_state(&bytes), None, "a reference above 255");
+    for at in 6..10 {
+        let mut bytes = encode_state(&State::EMPTY);
+        (bytes[5], bytes[at]) = (2, 1);
+        assert_eq!(decode_state(&bytes), None, "null with other bytes than 0");
+    }
     assert!(!judge(&encode_input(&b, None, &[0; MAX_STEPS])));
     assert!(judge(&encode_input(&b, None, &[0; MAX_STEPS + 1])));
+}
+
+/// A field of the first object and the last place of all.
+#[test]
+fn fields_stand_behind_the_classes() {
+    let mut state = State::EMPTY;
+    state.fields[1] = Value::Null;
+    state.fields[127] = Value::Ref(3);
+    state.threads[7].stack[15] = Value::Null;
+    let bytes = encode_state(&state);
+    assert_eq!(bytes.len(), 2_505);
+    assert_eq!(bytes[1_865..1_875], [0, 0, 0, 0, 0, 2, 0, 0, 0, 0]);
+    assert_eq!(bytes[2_500..], [1, 0, 0, 0, 3]);
+    assert_eq!(decode_state(&bytes), Some(state.clone()));
+    let text = run(&encode_input(&[], Some(&state), &[]));
+    let last = text.lines().last().expect("a line");
+    assert!(last.starts_with("fields i0 null i0 "), "{last}");
+    assert!(last.ends_with(" i0 r3"), "{last}");
+    assert_eq!(last.split(' ').count(), 129);
+    assert_eq!(decode_output(&text).map(|output| output.state), Some(state));
 }

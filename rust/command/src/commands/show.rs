@@ -14,8 +14,9 @@ pub const COMMAND: Command = Command {
     help: "\
 A FILE of - is standard input. Beside each instruction stands its row: the
 variables, a bar, and the stack from its top. Int is an integer, Top anything
-at all, C0(1,-1) a reference of class 0 with dip 1 and end -1. Bytes that are no
-instruction stand as none[..], those that are no entry as malformed[..].
+at all, C0(1,-1) a reference of class 0 with dip 1 and end -1, C0? one that may
+be null; getfield C1.2 reads field 2 of class 1. Bytes that are no instruction
+stand as none[..], those that are no entry as malformed[..].
 
 Status 0: listed, whatever the verdict; 1: the container cannot be read (verdict
 1 to 6), and it says why; 2: a bad command line or file.",

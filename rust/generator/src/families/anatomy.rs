@@ -1,5 +1,6 @@
 //! Where the parts of a bundle in its plain layout lie.
 
+use super::random::Names;
 use crate::rng::Rng;
 use reference::bundle::{DIRECTORY_ENTRY, TRAILER};
 
@@ -11,6 +12,7 @@ pub struct Record {
     pub arguments: usize,
     pub variables: usize,
     pub stack: usize,
+    pub fields: usize,
     pub code: usize,
 }
 
@@ -24,12 +26,18 @@ impl Record {
             arguments: usize::from(b[entry + 2]),
             variables: usize::from(b[entry + 3]),
             stack: usize::from(b[entry + 4]),
+            fields: usize::from(b[entry + 5]),
             code: two(entry + 6),
         }
     }
 
+    /// How many descriptors the record begins with.
+    pub fn descriptors(&self) -> usize {
+        self.arguments + self.fields
+    }
+
     pub fn instruction(&self, index: usize) -> usize {
-        self.offset + self.arguments + 4 * index
+        self.offset + self.descriptors() + 4 * index
     }
 
     pub fn row(&self, index: usize) -> usize {
@@ -62,6 +70,11 @@ impl Record {
 /// How many classes the trailer names.
 pub fn classes(b: &[u8]) -> usize {
     usize::from(b[b.len() - TRAILER + 2])
+}
+
+/// What its instructions may name.
+pub fn names(b: &[u8]) -> Names {
+    Names::new(records(b).iter().map(|record| record.fields))
 }
 
 /// Every class's, in order.

@@ -5,7 +5,7 @@
 //! by other instructions, never by other rows. So both together draw the
 //! verdict of the earlier one, in the law's order.
 
-use super::anatomy::{classes, records, Record};
+use super::anatomy::{classes, names, records, Record};
 use super::interface::Interface;
 use super::{random, typed};
 use crate::rng::Rng;
@@ -140,7 +140,9 @@ fn edit(rng: &mut Rng, good: &[u8], record: &Record, wanted: u8) -> Option<Edit>
             let offset = rng.pick(&[last + 1, MAX_LENGTH]) as u16;
             Edit::put(record.entry, &offset.to_be_bytes())
         }
-        6 if record.arguments > 0 => Edit::put(record.offset + rng.below(record.arguments), &[any]),
+        6 if record.descriptors() > 0 => {
+            Edit::put(record.offset + rng.below(record.descriptors()), &[any])
+        }
         7 => {
             let at = record.instruction(rng.below(record.code)) + rng.below(4);
             Edit::put(at, &[any])
@@ -166,7 +168,7 @@ fn malformed(rng: &mut Rng, record: &Record) -> Option<Edit> {
 
 fn other_instruction(rng: &mut Rng, good: &[u8], record: &Record) -> Edit {
     let index = rng.below(record.code);
-    let count = classes(good);
-    let instr = random::instruction(rng, record.variables, count, index + 1, record.code);
+    let names = names(good);
+    let instr = random::instruction(rng, record.variables, &names, index + 1, record.code);
     Edit::put(record.instruction(index), &instr.bytes())
 }

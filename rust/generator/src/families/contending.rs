@@ -17,12 +17,13 @@ pub fn contending(rng: &mut Rng) -> Draft {
     let mut signatures = vec![vec![]];
     signatures.extend(vec![objects.clone(); workers]);
     let interface = Interface {
+        fields: vec![vec![]; signatures.len()],
         signatures,
         exception: class(rng),
     };
     let mut methods = vec![main_method(rng, &interface, &objects)];
-    for _ in 0..workers {
-        methods.push(worker(rng, &interface, &objects));
+    for class in 1..=workers {
+        methods.push(worker(rng, &interface, class));
     }
     Draft {
         methods,
@@ -43,17 +44,18 @@ fn main_method(rng: &mut Rng, interface: &Interface, objects: &[u8]) -> Method {
             writer.start_sharing(objects);
         }
         writer.contend(objects.len());
-        writer.into_method(vec![])
+        writer.into_method(0)
     })
 }
 
-fn worker(rng: &mut Rng, interface: &Interface, objects: &[u8]) -> Method {
+fn worker(rng: &mut Rng, interface: &Interface, class: usize) -> Method {
+    let objects = &interface.signatures[class];
     typed::written(rng, |rng| {
         let mut first: Vec<Entry> = objects.iter().map(|&class| Entry::fresh(class)).collect();
         first.push(Entry::Top);
         let mut writer = Writer::new(rng, interface, first, 2, 40);
         writer.contend(objects.len());
-        writer.into_method(objects.to_vec())
+        writer.into_method(class)
     })
 }
 

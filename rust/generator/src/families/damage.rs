@@ -1,9 +1,9 @@
 //! Takes a good bundle in its plain layout and breaks one thing in it.
 
-use super::anatomy::{classes, records, Record};
+use super::anatomy::{classes, names, records, Record};
 use super::random;
 use crate::rng::Rng;
-use reference::bundle::{DIRECTORY_ENTRY, TRAILER};
+use reference::bundle::{Field, DIRECTORY_ENTRY, TRAILER};
 use reference::entries::kind;
 use reference::instructions::names_address;
 
@@ -11,12 +11,12 @@ use reference::instructions::names_address;
 pub fn damage(rng: &mut Rng, mut b: Vec<u8>) -> Vec<u8> {
     let all = records(&b);
     let record = &all[rng.below(all.len())];
-    match rng.below(35) {
+    match rng.below(39) {
         0 => flip(rng, &mut b),
         1 | 2 => trailer(rng, &mut b),
         3 => resize(rng, &mut b),
         4..=5 => directory(rng, &mut b, record),
-        6 | 30 => move_record(rng, &mut b, record),
+        6 | 30 | 38 => move_record(rng, &mut b, record),
         7 | 31 | 32 => descriptor(rng, &mut b, &all),
         8 | 9 => raw_instruction(rng, &mut b, record),
         10..=12 => other_instruction(rng, &mut b, record),
@@ -26,6 +26,8 @@ pub fn damage(rng: &mut Rng, mut b: Vec<u8>) -> Vec<u8> {
         18 | 19 => raw_entry(rng, &mut b, record),
         20 => first_row(rng, &mut b, record),
         33 | 34 => exception(rng, &mut b),
+        35 => field_count(rng, &mut b, record),
+        36 | 37 => field_operand(rng, &mut b, &all),
         21..=26 => nudge(rng, &mut b, record),
         _ => other_entry(rng, &mut b, record),
     }
@@ -62,6 +64,27 @@ fn directory(rng: &mut Rng, b: &mut [u8], record: &Record) {
     b[at] = step_or_any(rng, b[at]);
 }
 
+/// Another field count, or one that no class may have.
+fn field_count(rng: &mut Rng, b: &mut [u8], record: &Record) {
+    let any = rng.byte();
+    b[record.entry + 5] = rng.pick(&[0, 4, 5, 5, 255, any]);
+}
+
+/// A field's instruction whose class or field is one too high, or anything.
+fn field_operand(rng: &mut Rng, b: &mut [u8], all: &[Record]) {
+    let record = &all[rng.below(all.len())];
+    let at = record.instruction(rng.below(record.code));
+    let class = rng.below(all.len() + 1) as u8;
+    let past = all.get(usize::from(class)).map_or(0, |own| own.fields) as u8;
+    let operand = Field {
+        class,
+        number: past.min(3),
+    };
+    let any = rng.byte();
+    b[at] = rng.pick(&[13, 14]);
+    b[at + 1] = rng.pick(&[operand.operand(), operand.operand(), any]);
+}
+
 /// A record said to end at length - 8, just past it, or anywhere.
 fn move_record(rng: &mut Rng, b: &mut [u8], record: &Record) {
     let length = record.end() - record.offset;
@@ -81,8 +104,9 @@ fn step_or_any(rng: &mut Rng, byte: u8) -> u8 {
 
 /// A descriptor of some class that has one.
 fn descriptor(rng: &mut Rng, b: &mut [u8], all: &[Record]) {
-    if let Some(record) = all.iter().rev().find(|record| record.arguments > 0) {
-        let at = record.offset + rng.below(record.arguments);
+    let mut described = all.iter().rev();
+    if let Some(record) = described.find(|record| record.descriptors() > 0) {
+        let at = record.offset + rng.below(record.descriptors());
         let any = rng.byte();
         b[at] = rng.pick(&[0xFF, 0, all.len() as u8, all.len() as u8, 8, 0xFE, any]);
     }
@@ -97,7 +121,7 @@ fn raw_instruction(rng: &mut Rng, b: &mut [u8], record: &Record) {
 /// Another instruction that keeps to the table.
 fn other_instruction(rng: &mut Rng, b: &mut [u8], record: &Record) {
     let index = rng.below(record.code);
-    let instr = random::instruction(rng, record.variables, classes(b), index + 1, record.code);
+    let instr = random::instruction(rng, record.variables, &names(b), index + 1, record.code);
     let at = record.instruction(index);
     b[at..at + 4].copy_from_slice(&instr.bytes());
 }

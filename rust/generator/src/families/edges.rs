@@ -3,12 +3,12 @@
 use super::typed;
 use crate::builder::{lay_out, Draft, Layout, Method, Row};
 use crate::rng::Rng;
-use reference::bundle::{Addr, Instr, Var, DIRECTORY_ENTRY, MAX_LENGTH, TRAILER};
+use reference::bundle::{Addr, Field, Instr, Var, DIRECTORY_ENTRY, INT, MAX_LENGTH, TRAILER};
 use reference::entries::Entry;
 
 /// One bundle at some edge.
 pub fn edge(rng: &mut Rng) -> Vec<u8> {
-    match rng.below(20) {
+    match rng.below(30) {
         0 => lay_out(&[empty_method(0, 0, 1)]),
         1 => limits(rng),
         2 => shared(rng),
@@ -22,6 +22,9 @@ pub fn edge(rng: &mut Rng) -> Vec<u8> {
         10 => broken_limit(rng),
         11 => exception_class(rng),
         12..=18 => throw_without_room(rng),
+        19 | 20 => field_counts(rng),
+        21 => field_operands(rng),
+        22..=28 => fields_in_code(rng),
         _ => twice(rng),
     }
 }
@@ -30,11 +33,11 @@ pub fn edge(rng: &mut Rng) -> Vec<u8> {
 fn empty_method(variables: usize, stack_limit: usize, length: usize) -> Method {
     let tops = vec![Entry::Top; variables];
     Method {
-        arguments: vec![],
         variables,
         stack_limit,
         code: vec![Instr::Return; length],
         rows: vec![Row::new(&tops, &[]); length],
+        ..Method::default()
     }
 }
 
@@ -166,7 +169,7 @@ fn deep_lock(rng: &mut Rng) -> Vec<u8> {
         Row::new(&[Entry::Top], &[Entry::fresh(0)]),
     ];
     for level in 0..times {
-        code.push(Instr::Enter(v));
+        code.push(Instr::Enter(v, None));
         rows.push(at(level));
     }
     for level in (1..=times - off).rev() {
@@ -176,11 +179,11 @@ fn deep_lock(rng: &mut Rng) -> Vec<u8> {
     code.push(Instr::Return);
     rows.push(at(off));
     lay_out(&[Method {
-        arguments: vec![],
         variables: 1,
         stack_limit: 1,
         code,
         rows,
+        ..Method::default()
     }])
 }
 
@@ -189,7 +192,7 @@ fn broken_limit(rng: &mut Rng) -> Vec<u8> {
     let mut b = lay_out(&[empty_method(2, 2, 3), empty_method(2, 2, 3)]);
     let class = rng.below(2);
     let entry = b.len() - TRAILER - DIRECTORY_ENTRY * (2 - class);
-    let (field, value) = rng.pick(&[(2, 1), (2, 3), (3, 17), (4, 17), (5, 1), (6, 2), (7, 0)]);
+    let (field, value) = rng.pick(&[(2, 1), (2, 3), (3, 17), (4, 17), (5, 5), (6, 2), (7, 0)]);
     b[entry + field] = value;
     b
 }
@@ -204,13 +207,67 @@ fn exception_class(rng: &mut Rng) -> Vec<u8> {
     draft.lay_out()
 }
 
-/// new where the stack has no place, with a handler or none: when it fails,
-/// only the handler would need one.
+/// new, or monitorenter on what may be null, where the stack has no place,
+/// with a handler or none: only the handler would need one.
 fn throw_without_room(rng: &mut Rng) -> Vec<u8> {
-    let mut method = empty_method(rng.below(3), 0, 3);
+    let mut method = empty_method(rng.between(1, 3), 0, 3);
     let handler = rng.chance(1, 2).then(|| Addr(rng.between(1, 3) as u16));
-    method.code[0] = Instr::New(0, handler);
+    method.code[0] = rng.pick(&[Instr::New(0, handler), Instr::Enter(Var(0), handler)]);
     lay_out(&[method])
+}
+
+/// No field, as many as there may be, or one more; integers, references, or
+/// what is neither.
+fn field_counts(rng: &mut Rng) -> Vec<u8> {
+    let count = rng.between(1, 3);
+    let methods: Vec<Method> = (0..count)
+        .map(|_| {
+            let fields = rng.pick(&[0, 1, 3, 4, 4, 4, 5]);
+            let wrong = if rng.chance(1, 8) { 2 } else { 0 };
+            let descriptor = |rng: &mut Rng| match rng.below(3) {
+                0 => INT,
+                _ => rng.below(count + wrong) as u8,
+            };
+            Method {
+                fields: (0..fields).map(|_| descriptor(rng)).collect(),
+                ..empty_method(rng.below(3), rng.below(3), rng.between(1, 3))
+            }
+        })
+        .collect();
+    lay_out(&methods)
+}
+
+/// A field's instruction with any operand near those that name a field.
+fn field_operands(rng: &mut Rng) -> Vec<u8> {
+    let count = rng.pick(&[1, 2, 8]);
+    let mut methods: Vec<Method> = (0..count)
+        .map(|_| Method {
+            fields: vec![INT; rng.between(0, 4)],
+            ..empty_method(1, 2, 2)
+        })
+        .collect();
+    let field = Field {
+        class: rng.below(count + 1) as u8,
+        number: rng.below(4) as u8,
+    };
+    let class = rng.below(count);
+    let access = rng.pick(&[Instr::Getfield, Instr::Putfield]);
+    methods[class].code[rng.pick(&[0, 0, 0, 1])] = access(field, None);
+    lay_out(&methods)
+}
+
+/// A second class whose fields are described by the first one's code: three
+/// zeros in front of its last instruction.
+fn fields_in_code(rng: &mut Rng) -> Vec<u8> {
+    let outer = empty_method(0, 0, rng.between(2, 40));
+    let mut layout = Layout::new();
+    layout.place(&outer);
+    let inner = Method {
+        fields: vec![0; rng.between(1, 4)],
+        ..empty_method(0, 0, 1)
+    };
+    layout.enter(&inner, 4 * (outer.code.len() - 1) - inner.fields.len());
+    layout.finish()
 }
 
 /// One well-typed bundle's record entered once more as a further class.

@@ -52,7 +52,7 @@ fn successors(instr: Instr, index: usize) -> Vec<usize> {
 /// reference if there is any.
 fn some_entry<'r>(rng: &mut Rng, row: &'r mut Row, instr: Instr) -> Option<&'r mut Entry> {
     match (rng.below(4), instr) {
-        (0, Instr::Load(v) | Instr::Store(v) | Instr::Enter(v) | Instr::Exit(v)) => {
+        (0, Instr::Load(v) | Instr::Store(v) | Instr::Enter(v, _) | Instr::Exit(v)) => {
             return row.variables.get_mut(usize::from(v.0));
         }
         (1, _) if !row.stack.is_empty() => return row.stack.first_mut(),
@@ -79,6 +79,7 @@ fn less(rng: &mut Rng, entry: Entry, classes: usize) -> Entry {
             Entry::reference(class, pair.dip, owing)
         }
         (6, _) => unlike(rng, entry, classes),
+        (7, Entry::Ref { class, .. }) => Entry::Nullable { class },
         _ => Entry::Top,
     }
 }
@@ -94,7 +95,9 @@ fn more(rng: &mut Rng, entry: Entry, classes: usize) -> Entry {
             Entry::reference(class, pair.dip, (pair.end + by).min(MAX_WEIGHT))
         }
         // What comes may still owe a lock.
-        (4, Entry::Ref { .. }) => Entry::Top,
+        (4, Entry::Ref { class, .. }) => rng.pick(&[Entry::Top, Entry::Nullable { class }]),
+        // Null may come.
+        (0..=3, Entry::Nullable { class }) => Entry::fresh(class),
         _ => unlike(rng, entry, classes),
     }
 }
@@ -104,9 +107,10 @@ fn unlike(rng: &mut Rng, entry: Entry, classes: usize) -> Entry {
     let class = rng.below(classes) as u8;
     match entry {
         Entry::Int => Entry::fresh(class),
-        Entry::Top => rng.pick(&[Entry::Int, Entry::fresh(class)]),
+        Entry::Top => rng.pick(&[Entry::Int, Entry::fresh(class), Entry::Nullable { class }]),
         Entry::Ref { class: own, pair } if own != class => Entry::Ref { class, pair },
-        Entry::Ref { .. } => Entry::Int,
+        Entry::Nullable { class: own } if own != class => Entry::Nullable { class },
+        Entry::Ref { .. } | Entry::Nullable { .. } => Entry::Int,
     }
 }
 

@@ -13,7 +13,7 @@ pub fn branches_under_lock(class: &Class) -> bool {
     let code = code_of(class);
     let at = |address: usize| code[address - 1];
     let from_start = reach(&code, &[1]);
-    let enters = filtered(&from_start, |a| matches!(at(a), Instr::Enter(_)));
+    let enters = filtered(&from_start, |a| matches!(at(a), Instr::Enter(_, _)));
     let from_enter = reach(&code, &enters);
     filtered(&from_enter, |a| {
         is_branch(at(a), a) && owes(class.row(Addr(a as u16)))

@@ -1,8 +1,8 @@
 //! Records that begin with the last bytes of others.
 //!
 //! A record often ends with zeros: unused stack entries, a depth of 0. A
-//! record whose first arguments are of class 0 begins with zeros, and so does
-//! a directory whose main record stands at 0.
+//! record whose arguments and fields are of class 0 begins with zeros, and so
+//! does a directory whose main record stands at 0.
 
 use super::interface::Interface;
 use super::typed;
@@ -17,6 +17,9 @@ pub fn overlapping(rng: &mut Rng) -> Vec<u8> {
         let kept = signature.len().min(16 - zeros);
         signature.truncate(kept);
         signature.splice(0..0, vec![0; zeros]);
+    }
+    for fields in &mut interface.fields {
+        fields.fill(0);
     }
     let Draft { methods, exception } = typed::draft_of(rng, interface, None);
     let mut layout = Layout::throwing(exception);

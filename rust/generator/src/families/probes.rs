@@ -16,27 +16,26 @@ const PROBED: usize = 1;
 /// A bundle whose rule at address 2 of some class mostly fails.
 pub fn probe(rng: &mut Rng) -> Vec<u8> {
     let interface = Interface::any(rng);
-    let Interface {
-        signatures,
-        exception,
-    } = &interface;
-    let chosen = rng.below(signatures.len());
-    let mut methods: Vec<Method> = signatures.iter().map(|n| idle(n)).collect();
+    let classes = interface.signatures.len();
+    let chosen = rng.below(classes);
+    let mut methods: Vec<Method> = (0..classes).map(|class| idle(&interface, class)).collect();
     methods[chosen] = method(rng, &interface, chosen);
     if rng.chance(9, 10) {
-        faults::break_rule(rng, &mut methods[chosen], PROBED, signatures.len());
+        faults::break_rule(rng, &mut methods[chosen], PROBED, classes);
     }
     let draft = Draft {
         methods,
-        exception: *exception,
+        exception: interface.exception,
     };
     draft.lay_out()
 }
 
 /// A method that returns at once.
-fn idle(arguments: &[u8]) -> Method {
+fn idle(interface: &Interface, class: usize) -> Method {
+    let arguments = &interface.signatures[class];
     Method {
-        arguments: arguments.to_vec(),
+        arguments: arguments.clone(),
+        fields: interface.fields[class].clone(),
         variables: arguments.len(),
         code: vec![Instr::Return],
         rows: vec![random::first_row(arguments, arguments.len())],
@@ -60,7 +59,7 @@ fn method(rng: &mut Rng, interface: &Interface, class: usize) -> Method {
         writer.place(label);
         writer.ret();
     }
-    let method = writer.into_method(arguments.clone());
+    let method = writer.into_method(class);
     method.expect("four instructions at most, every label placed")
 }
 
@@ -76,9 +75,12 @@ impl Writer<'_> {
     }
 
     fn any_entry(&mut self) -> Entry {
-        match self.rng.below(6) {
+        match self.rng.below(7) {
             0 => Entry::Int,
             1 => Entry::Top,
+            2 => Entry::Nullable {
+                class: self.pick_class(),
+            },
             _ => self.any_reference(),
         }
     }
@@ -106,10 +108,12 @@ impl Writer<'_> {
                 self.probed_on(top, |writer| writer.store(v));
             }
             6 => self.probed_on(Entry::Int, Writer::probed_branch),
+            7 if self.rng.chance(1, 2) => self.probed_enter_nullable(v),
             7 | 8 => self.probed_lock(v, opcode == 7),
             9 => self.probed_new(),
             10 => self.probed_start(),
             11 => self.probed_throw(),
+            13 | 14 => self.probed_access(opcode == 13),
             _ => {
                 self.free_all();
                 self.ret();
@@ -159,12 +163,61 @@ impl Writer<'_> {
         }
     }
 
+    fn probed_enter_nullable(&mut self, v: usize) {
+        let class = self.pick_class();
+        self.now.variables[v] = Entry::Nullable { class };
+        let handler = self.probed_failure();
+        self.enter_nullable(v, handler);
+    }
+
+    /// An instruction of some field, whose owner may be null or not; what
+    /// reads or writes none is written as a return.
+    fn probed_access(&mut self, reads: bool) {
+        let fields = self.interface.fields(|_, _| true);
+        if fields.is_empty() {
+            self.free_all();
+            return self.ret();
+        }
+        let field = self.rng.pick(&fields);
+        let owner = self.probed_reference(field.class);
+        self.now.stack.truncate(self.stack_limit - 2);
+        self.now.stack.push(owner);
+        if !reads {
+            let value = match self.interface.descriptor(field) {
+                INT => Entry::Int,
+                class => self.probed_reference(class),
+            };
+            self.now.stack.push(value);
+        }
+        let handler = match owner {
+            Entry::Nullable { .. } => self.probed_failure(),
+            _ => self.idle_handler(),
+        };
+        match reads {
+            true => self.getfield(field, handler),
+            false => self.putfield(field, handler),
+        }
+    }
+
+    /// A reference that owes nothing, and may be null or not.
+    fn probed_reference(&mut self, class: u8) -> Entry {
+        let (dip, end) = (self.rng.below(3) as i16, self.rng.below(3) as i16);
+        match self.rng.chance(1, 2) {
+            true => Entry::Nullable { class },
+            false => Entry::reference(class, dip, end),
+        }
+    }
+
+    /// The handler of what a failure throws, or none, and then all may go.
+    fn probed_failure(&mut self) -> Option<Label> {
+        self.now.stack.iter_mut().for_each(|e| *e = freed(*e));
+        self.probed_handler(Entry::fresh(self.interface.exception))
+    }
+
     /// At times the handler is the next address.
     fn probed_new(&mut self) {
         let class = self.pick_class();
-        self.now.stack.iter_mut().for_each(|e| *e = freed(*e));
-        let failure = Entry::fresh(self.interface.exception);
-        let handler = self.probed_handler(failure);
+        let handler = self.probed_failure();
         self.new_object(class, handler);
         if let Some(label) = handler.filter(|_| self.rng.chance(1, 8)) {
             self.place(label);

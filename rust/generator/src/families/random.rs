@@ -1,8 +1,9 @@
 //! Random bytes, and bundles whose structure holds but whose rows are random.
 
+use super::interface;
 use crate::builder::{seal, Draft, Method, Row};
 use crate::rng::Rng;
-use reference::bundle::{Addr, Instr, Var, INT};
+use reference::bundle::{Addr, Field, Instr, Var, INT};
 use reference::entries::Entry;
 
 /// Any bytes of any length: mostly short, at times past the limit; at times
@@ -26,15 +27,43 @@ pub fn bytes(rng: &mut Rng) -> Vec<u8> {
 pub fn structured(rng: &mut Rng) -> Draft {
     let most = if rng.chance(1, 10) { 8 } else { 3 };
     let classes = rng.between(1, most);
+    let fields: Vec<Vec<u8>> = (0..classes)
+        .map(|_| interface::fields(rng, classes))
+        .collect();
     Draft {
         methods: (0..classes)
-            .map(|class| method(rng, class, classes))
+            .map(|class| method(rng, class, &fields))
             .collect(),
         exception: rng.below(classes) as u8,
     }
 }
 
-fn method(rng: &mut Rng, class: usize, classes: usize) -> Method {
+/// What instructions may name beside variables and addresses: a bundle's
+/// classes and their fields.
+#[derive(Clone, Debug)]
+pub struct Names {
+    pub classes: usize,
+    pub fields: Vec<Field>,
+}
+
+impl Names {
+    /// Of classes with so many fields each.
+    pub fn new(counts: impl Iterator<Item = usize>) -> Names {
+        let counts: Vec<usize> = counts.collect();
+        let mut fields = vec![];
+        for (class, &count) in (0..).zip(&counts) {
+            fields.extend((0..count as u8).map(|number| Field { class, number }));
+        }
+        Names {
+            classes: counts.len(),
+            fields,
+        }
+    }
+}
+
+fn method(rng: &mut Rng, class: usize, fields: &[Vec<u8>]) -> Method {
+    let classes = fields.len();
+    let names = Names::new(fields.iter().map(Vec::len));
     let variables = small(rng);
     let stack_limit = small(rng);
     let n = if class == 0 {
@@ -49,7 +78,7 @@ fn method(rng: &mut Rng, class: usize, classes: usize) -> Method {
         rng.between(1, 10)
     };
     let code = (1..=length)
-        .map(|at| instruction(rng, variables, classes, at, length))
+        .map(|at| instruction(rng, variables, &names, at, length))
         .collect();
     let mut rows: Vec<Row> = (0..length)
         .map(|_| row(rng, variables, stack_limit, classes))
@@ -59,6 +88,7 @@ fn method(rng: &mut Rng, class: usize, classes: usize) -> Method {
     }
     Method {
         arguments,
+        fields: fields[class].clone(),
         variables,
         stack_limit,
         code,
@@ -110,9 +140,10 @@ fn row(rng: &mut Rng, variables: usize, stack_limit: usize, classes: usize) -> R
 /// A well-formed entry, its pair mostly near (0,0).
 pub fn entry(rng: &mut Rng, classes: usize) -> Entry {
     let class = rng.below(classes) as u8;
-    match rng.below(8) {
+    match rng.below(9) {
         0 | 1 => Entry::Int,
         2 | 3 => Entry::Top,
+        8 => Entry::Nullable { class },
         4 => Entry::reference(class, rng.between(0, 63) as i16, rng.below(127) as i16 - 63),
         5 => Entry::fresh(class),
         _ => Entry::reference(class, rng.below(3) as i16, rng.below(4) as i16 - 2),
@@ -123,7 +154,7 @@ pub fn entry(rng: &mut Rng, classes: usize) -> Entry {
 pub fn instruction(
     rng: &mut Rng,
     variables: usize,
-    classes: usize,
+    names: &Names,
     at: usize,
     length: usize,
 ) -> Instr {
@@ -136,7 +167,12 @@ pub fn instruction(
             Instr::Athrow(handler)
         };
     }
-    let class = rng.below(classes) as u8;
+    if !names.fields.is_empty() && rng.chance(1, 6) {
+        let field = rng.pick(&names.fields);
+        let access = rng.pick(&[Instr::Getfield, Instr::Putfield]);
+        return access(field, handler);
+    }
+    let class = rng.below(names.classes) as u8;
     let with_variable = if variables > 0 { 4 } else { 0 };
     let v = Var(rng.below(variables.max(1)) as u8);
     match rng.below(8 + with_variable) {
@@ -150,7 +186,7 @@ pub fn instruction(
         7 => Instr::Return,
         8 => Instr::Load(v),
         9 => Instr::Store(v),
-        10 => Instr::Enter(v),
+        10 => Instr::Enter(v, handler),
         _ => Instr::Exit(v),
     }
 }

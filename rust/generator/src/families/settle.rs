@@ -53,6 +53,7 @@ impl Writer<'_> {
         match (self.now.variables[v], want) {
             (_, Entry::Top) | (Entry::Int, Entry::Int) => {}
             (Entry::Ref { class: a, .. }, Entry::Ref { class: b, .. }) if a == b => {}
+            (own, Entry::Nullable { class }) if own.may_be_of(class) => {}
             (_, Entry::Int) => {
                 self.release(v);
                 if self.room() > 0 && free(self.now.variables[v]) {
@@ -60,7 +61,7 @@ impl Writer<'_> {
                     self.store(v);
                 }
             }
-            (_, Entry::Ref { class, .. }) => {
+            (_, Entry::Ref { class, .. } | Entry::Nullable { class }) => {
                 self.release_all();
                 if free(self.now.variables[v]) && self.make(class) {
                     self.store(v);

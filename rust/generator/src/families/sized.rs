@@ -101,7 +101,7 @@ impl Stripe {
         let (free, held) = (Entry::fresh(0), Entry::reference(0, 1, -1));
         let (at_rest, locked) = ([free, Entry::Int], [held, Entry::Int]);
         let after_branch = Addr(self.code.len() as u16 + 5);
-        self.add(Instr::Enter(Var(0)), at_rest, &[]);
+        self.add(Instr::Enter(Var(0), None), at_rest, &[]);
         self.add(Instr::Push0, locked, &[]);
         self.add(Instr::Inc, locked, &[Entry::Int]);
         self.add(Instr::If(after_branch), locked, &[Entry::Int]);
@@ -115,11 +115,11 @@ impl Stripe {
     fn end(mut self, instr: Instr, stack: &[Entry]) -> Method {
         self.add(instr, [Entry::fresh(0), Entry::Int], stack);
         Method {
-            arguments: vec![],
             variables: 4,
             stack_limit: 3,
             code: self.code,
             rows: self.rows,
+            ..Method::default()
         }
     }
 }

@@ -35,13 +35,34 @@ impl Writer<'_> {
             Slip::UncaughtKeepsTop => self.throw_locked(v),
             Slip::UncaughtKeepsRest => self.throw_over(v, false),
             Slip::UncaughtKeepsVariables => self.throw_beside(v),
-            Slip::CountByVariable | Slip::ReentryWaits => false,
+            Slip::NullableFitsAnyClass => self.mistake_class(v),
+            Slip::NullableFitsReference => self.throw_recast_null(),
+            Slip::OwingFitsNullable => self.doubt_lock(v),
+            Slip::StartOfNull => self.start_null(),
+            Slip::NullKeepsStack => self.lose_stack_to_null(v),
+            Slip::CaughtNullKeepsVariables => self.lose_variable_to_null(v),
+            Slip::UncaughtNullKeepsVariables => self.end_by_null(v),
+            Slip::EnteredFromNullIsFree => self.lock_doubted(v),
+            Slip::GetfieldPushesReference => self.throw_field(),
+            Slip::OwnerOfAnyClass => self.read_from_other(v),
+            Slip::FieldDropsOwner => self.read_from_locked(v),
+            Slip::PutfieldOfTop => self.put_top(v),
+            Slip::PutfieldOfAnyClass => self.put_other(v),
+            Slip::PutfieldDropsValue => self.put_lock_away(v),
+            Slip::CountByVariable
+            | Slip::ReentryWaits
+            | Slip::NewLeavesFields
+            | Slip::NullWaits => false,
         }
     }
 
+    /// Another variable, which may be overwritten.
+    pub(super) fn other_free(&self, v: usize) -> Option<usize> {
+        (0..self.now.variables.len()).find(|&w| w != v && free(self.now.variables[w]))
+    }
+
     fn copy_pair(&mut self, v: usize) -> bool {
-        let other = (0..self.now.variables.len()).find(|&w| w != v && free(self.now.variables[w]));
-        let Some(w) = other else {
+        let Some(w) = self.other_free(v) else {
             return false;
         };
         let whole = self.now.variables[v];
@@ -78,7 +99,7 @@ impl Writer<'_> {
     }
 
     /// The variable's whole pair goes to the stack.
-    fn load_whole(&mut self, v: usize) {
+    pub(super) fn load_whole(&mut self, v: usize) {
         if let Entry::Ref { class, pair } = self.now.variables[v] {
             self.load(v, Entry::fresh(class), Entry::Ref { class, pair });
         }
@@ -112,7 +133,7 @@ impl Writer<'_> {
     }
 
     /// A way aside that is always taken and ends in a throw.
-    fn aside(&mut self, throw: impl Fn(&mut Self)) -> bool {
+    pub(super) fn aside(&mut self, throw: impl Fn(&mut Self)) -> bool {
         let other = self.label(self.now.clone());
         self.push0();
         self.branch(other);
@@ -122,7 +143,7 @@ impl Writer<'_> {
     }
 
     /// A reference that owes nothing of a variable's class.
-    fn load_free(&mut self, v: usize) {
+    pub(super) fn load_free(&mut self, v: usize) {
         if let Entry::Ref { class, .. } = self.now.variables[v] {
             self.load(v, self.now.variables[v], Entry::fresh(class));
         }

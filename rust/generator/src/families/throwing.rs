@@ -18,7 +18,7 @@ impl Writer<'_> {
     }
 
     /// A handler that catches this here, or none if all may go.
-    fn choose_handler(&mut self, thrown: Entry) -> Option<Option<Label>> {
+    pub(super) fn choose_handler(&mut self, thrown: Entry) -> Option<Option<Label>> {
         let catching = self.labels(|shape| match shape.stack[..] {
             [only] => thrown.fits(only) && self.now.variables_fit(shape),
             _ => false,

@@ -1,5 +1,5 @@
 //! Well-typed methods: nested lock regions, branches, loops, throws, handlers,
-//! aliases and started threads, each with the rows that make it hold.
+//! aliases, fields and started threads, each with the rows that make it hold.
 
 use super::interface::{claimed, size, Interface};
 use super::writer::{free, Writer};
@@ -22,6 +22,10 @@ pub fn tempting(rng: &mut Rng, slip: Slip) -> Vec<u8> {
 /// The methods of a whole bundle; only main is tempted, so that it is run.
 pub fn draft(rng: &mut Rng, temptation: Option<Slip>) -> Draft {
     let interface = Interface::any(rng);
+    let interface = match temptation {
+        Some(_) => interface.with_rich_fields(),
+        None => interface,
+    };
     draft_of(rng, interface, temptation)
 }
 
@@ -57,7 +61,7 @@ fn method(rng: &mut Rng, interface: &Interface, class: usize, slip: Option<Slip>
         writer.temptation = slip;
         writer.body();
         budget = (budget / 2).max(1);
-        writer.into_method(arguments.clone())
+        writer.into_method(class)
     })
 }
 
@@ -103,7 +107,7 @@ impl Writer<'_> {
     }
 
     fn statement(&mut self, nest: usize) {
-        match self.rng.below(if nest == 0 { 11 } else { 27 }) {
+        match self.rng.below(if nest == 0 { 16 } else { 34 }) {
             0 => self.number(),
             1 | 2 => self.object(),
             3 | 4 => self.alias(),
@@ -111,14 +115,18 @@ impl Writer<'_> {
             6 => self.weaken(),
             7 | 8 => self.throw_ahead(),
             9 | 10 => self.object_or_thrown(),
-            11..=16 => self.lock_region(nest),
-            17 | 18 => self.if_skips(nest - 1),
-            19 => self.if_else(nest - 1),
-            20 => self.if_ends(nest - 1),
-            21 | 22 => self.if_throws(nest - 1),
-            23 => self.do_loop(nest - 1),
-            24 => self.while_loop(nest - 1),
-            25 => self.try_region(nest - 1),
+            11 | 12 => self.read_field(),
+            13 | 14 => self.write_field(),
+            15 => self.doubt(),
+            16..=21 => self.lock_region(nest),
+            22 | 23 => self.lock_from_field(nest),
+            24 | 25 => self.if_skips(nest - 1),
+            26 => self.if_else(nest - 1),
+            27 => self.if_ends(nest - 1),
+            28 | 29 => self.if_throws(nest - 1),
+            30 => self.do_loop(nest - 1),
+            31 => self.while_loop(nest - 1),
+            32 => self.try_region(nest - 1),
             _ => self.over_stack(nest - 1),
         }
     }
@@ -232,9 +240,13 @@ impl Writer<'_> {
 
     /// Takes a lock, does something under it, and mostly gives it back.
     fn lock_region(&mut self, nest: usize) {
-        let Some(v) = self.pick(|entry| matches!(entry, Entry::Ref { .. })) else {
-            return self.object();
-        };
+        match self.pick(|entry| matches!(entry, Entry::Ref { .. } | Entry::Nullable { .. })) {
+            Some(v) => self.lock_region_of(v, nest),
+            None => self.object(),
+        }
+    }
+
+    pub(super) fn lock_region_of(&mut self, v: usize, nest: usize) {
         self.take(v);
         self.yield_to_temptation(v);
         if self.rng.chance(1, 2) {
@@ -254,8 +266,12 @@ impl Writer<'_> {
         }
     }
 
-    /// Enters once, at times again and again up to the edge of a pair.
+    /// Enters once, at times again and again up to the edge of a pair. What may
+    /// be null is left alone where a throw can't be written.
     pub(super) fn take(&mut self, v: usize) {
+        if let Some(handler) = self.handler_of_null(self.now.variables[v]) {
+            self.enter_nullable(v, handler);
+        }
         let times = match self.rng.below(60) {
             0 => 63,
             1..=9 => 2,

@@ -4,7 +4,7 @@
 use super::interface::Interface;
 use crate::builder::{Method, Row};
 use crate::rng::Rng;
-use reference::bundle::{Addr, Instr, Var};
+use reference::bundle::{Addr, Field, Instr, Var};
 use reference::entries::{Entry, Pair, MAX_WEIGHT};
 use reference::slips::{AsWritten, Slip};
 
@@ -144,9 +144,46 @@ impl<'r> Writer<'r> {
         }
     }
 
+    /// A handler at a reference that is not null is looked at by nobody.
     pub fn enter(&mut self, v: usize) {
-        self.emit(Instr::Enter(Var(v as u8)));
+        let handler = self.idle_handler();
+        self.enter_to(v, handler);
         self.shift(v, Pair::entered);
+    }
+
+    /// Takes the lock of a reference that may be null, or throws.
+    pub fn enter_nullable(&mut self, v: usize, handler: Option<Label>) {
+        self.enter_to(v, handler);
+        if let Entry::Nullable { class } = self.now.variables[v] {
+            let pair = Pair::ZERO.entered();
+            self.now.variables[v] = Entry::Ref { class, pair };
+        }
+    }
+
+    fn enter_to(&mut self, v: usize, handler: Option<Label>) {
+        let handler = handler.map(|label| self.refer(label));
+        self.emit(Instr::Enter(Var(v as u8), handler));
+    }
+
+    /// Mostly none, at times whatever label there is.
+    pub fn idle_handler(&mut self) -> Option<Label> {
+        let all = self.labels(|shape| shape.stack.len() <= self.stack_limit);
+        let any = self.rng.chance(1, 8) && !all.is_empty();
+        any.then(|| self.rng.pick(&all))
+    }
+
+    pub fn getfield(&mut self, field: Field, handler: Option<Label>) {
+        let handler = handler.map(|label| self.refer(label));
+        self.emit(Instr::Getfield(field, handler));
+        self.now.stack.pop();
+        let held = Entry::held(self.interface.descriptor(field));
+        self.now.stack.push(held);
+    }
+
+    pub fn putfield(&mut self, field: Field, handler: Option<Label>) {
+        let handler = handler.map(|label| self.refer(label));
+        self.emit(Instr::Putfield(field, handler));
+        self.now.stack.truncate(self.now.stack.len() - 2);
     }
 
     pub fn exit(&mut self, v: usize) {
@@ -239,8 +276,8 @@ impl<'r> Writer<'r> {
             .map(Label)
     }
 
-    /// The method, unless it has grown past 256 instructions.
-    pub fn into_method(self, arguments: Vec<u8>) -> Option<Method> {
+    /// The method of this class, unless it has grown past 256 instructions.
+    pub fn into_method(self, class: usize) -> Option<Method> {
         if self.code.is_empty() || self.code.len() > 256 {
             return None;
         }
@@ -254,7 +291,8 @@ impl<'r> Writer<'r> {
         let rows = self.rows.iter().map(finished_row).collect();
         let variables = self.now.variables.len();
         Some(Method {
-            arguments,
+            arguments: self.interface.signatures[class].clone(),
+            fields: self.interface.fields[class].clone(),
             variables,
             stack_limit: self.stack_limit,
             code: code?,

@@ -2,7 +2,7 @@
 
 use hveitmar::Answer;
 use listing::{Instruction, Opcode, Program};
-use reference::state::{State, Thread, Value, OBJECTS, THROWN_BY_NEW};
+use reference::state::{State, Thread, Value, OBJECTS, OBJECT_0};
 use trace::Turn;
 
 /// What each column of the table holds.
@@ -58,12 +58,12 @@ impl Step<'_> {
             thread.class.to_string(),
             thread.address.to_string(),
             instruction.map_or_else(none, |instruction| instruction.to_string()),
-            object.map_or_else(none, |object| object.to_string()),
+            object.unwrap_or_else(none),
         ]
     }
 
-    /// The object that the instruction works on, if there is one.
-    fn object(&self, thread: &Thread, instruction: Instruction) -> Option<u8> {
+    /// The object that the instruction works on, or null, if there is one.
+    fn object(&self, thread: &Thread, instruction: Instruction) -> Option<String> {
         let operand = instruction.operand;
         let below = |entries: usize| {
             let place = usize::from(thread.depth).checked_sub(entries + 1)?;
@@ -73,14 +73,16 @@ impl Step<'_> {
             Opcode::Load | Opcode::Enter | Opcode::Exit => {
                 thread.variables.get(usize::from(operand))
             }
-            Opcode::Pop | Opcode::Store | Opcode::Throw => below(0),
+            Opcode::Pop | Opcode::Store | Opcode::Throw | Opcode::Getfield => below(0),
+            Opcode::Putfield => below(1),
             Opcode::Start => below(self.program.method(operand).head.arguments),
-            Opcode::New => return self.allocated(),
+            Opcode::New => return self.allocated().map(|object| object.to_string()),
             Opcode::Inc | Opcode::Push0 | Opcode::If | Opcode::Return => None,
         };
         match value {
-            Some(&Value::Ref(object)) => Some(object),
-            _ => None,
+            Some(Value::Ref(object)) => Some(object.to_string()),
+            Some(Value::Null) => Some("null".to_string()),
+            Some(Value::Int(_)) | None => None,
         }
     }
 
@@ -90,7 +92,7 @@ impl Step<'_> {
         let fails = self.turn.fails() || usize::from(self.state.objects) >= OBJECTS;
         match self.answer {
             Answer::WentOn if !fails => Some(self.state.objects),
-            Answer::WentOn | Answer::Uncaught => Some(THROWN_BY_NEW),
+            Answer::WentOn | Answer::Uncaught => Some(OBJECT_0),
             _ => None,
         }
     }
