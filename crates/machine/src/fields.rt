@@ -72,9 +72,9 @@ pub(crate) fn get_step(
     s: State,
     i: u8,
     t: Thread,
+    c: u8,
     limit: u8,
     vars: u8,
-    c: u8,
     f: u8,
     h: Addr,
 ) -> Stepped
@@ -112,10 +112,10 @@ pub(crate) fn put_step(
     s: State,
     i: u8,
     t: Thread,
+    c: u8,
     d: u8,
     limit: u8,
     vars: u8,
-    c: u8,
     f: u8,
     h: Addr,
 ) -> Stepped

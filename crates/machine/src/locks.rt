@@ -18,9 +18,9 @@ pub(crate) fn enter_step(
     s: State,
     i: u8,
     t: Thread,
+    v: Var,
     limit: u8,
     vars: u8,
-    v: Var,
     h: Addr,
 ) -> Stepped
     requires { ⌜ t .at .0 < 65535 ⌝ }
