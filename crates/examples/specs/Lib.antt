@@ -1,2 +1,3 @@
+pub mod Bundles
 pub mod Runs
 pub mod Slips

@@ -1,11 +1,14 @@
 -- Accepted bundles, a schedule of each, and what document 01 answers to it.
-use mathlib.Core.List.{List, [], _∷_, _++_}
+use mathlib.Core.List.{List, [], _∷_, _++_, map}
+use mathlib.Core.Path.{_≡_}
 use mathlib.Core.Bool.{true, false}
 use Prim.Native.Nat.{ℕ, zero, suc}
 use Rattle.state.specs.declared.State.{State}
 use Rattle.machine.specs.Machine.{freshOf}
 use Rattle.machine.specs.Runs.{Step, answer, after}
+use Rattle.verifier.specs.Verdict.{verdictOf}
 use Rattle.cases.specs.Cases.{caseA}
+use Rattle.examples.specs.Bundles.{i, top, int, none, free, owing}
 
 -- the answers of a list of steps, one after another
 unfoldable pub answersFrom : List ℕ → State → List Step → List ℕ
@@ -31,25 +34,6 @@ pub record Run : Type 0 where
   pub bundle : List ℕ
   pub schedule : List Step
   pub wanted : List ℕ
-
-abbrev pub i : ℕ → ℕ → ℕ → List ℕ
-i opcode operand address = opcode ∷ operand ∷ 0 ∷ address ∷ []
-
-abbrev pub top : List ℕ
-top = 2 ∷ 0 ∷ 0 ∷ 0 ∷ []
-
-abbrev pub int : List ℕ
-int = 1 ∷ 0 ∷ 0 ∷ 0 ∷ []
-
-abbrev pub none : List ℕ
-none = 0 ∷ 0 ∷ 0 ∷ 0 ∷ []
-
--- a reference of class c with (0,0), and with (1,-1)
-abbrev pub free : ℕ → List ℕ
-free c = 3 ∷ c ∷ 0 ∷ 64 ∷ []
-
-abbrev pub owing : ℕ → List ℕ
-owing c = 3 ∷ c ∷ 1 ∷ 63 ∷ []
 
 -- a row of one variable and one stack entry
 abbrev pub row : List ℕ → ℕ → List ℕ → List ℕ
@@ -149,3 +133,14 @@ runs =
     ∷ record { bundle = caughtNew; schedule = failing 0 ∷ main 5; wanted = 0 ∷ 0 ∷ 0 ∷ 0 ∷ 0 ∷ 2 ∷ [] }
     ∷ record { bundle = caughtThrow; schedule = main 9; wanted = 0 ∷ 0 ∷ 0 ∷ 0 ∷ 0 ∷ 0 ∷ 0 ∷ 0 ∷ 1 ∷ [] }
     ∷ []
+
+-- the verdict's number and the answers, as they are found and as they are wanted: each bundle is accepted
+abbrev pub ran : Run → ℕ × List ℕ
+ran r = (verdictOf (r .bundle) .number, answers (r .bundle) (r .schedule))
+
+abbrev pub wantedOf : Run → ℕ × List ℕ
+wantedOf r = (0, r .wanted)
+
+-- demand 3 is not empty: accepted bundles that run to their end (`runs-hold`)
+abbrev pub RunsHold : Type 0
+RunsHold = map ran runs ≡ map wantedOf runs
