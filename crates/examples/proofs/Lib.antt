@@ -1,2 +1,4 @@
+pub mod Answered
 pub mod Runs
 pub mod Slips
+pub mod FieldSlips

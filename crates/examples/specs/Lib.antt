@@ -1,2 +1,4 @@
+pub mod Bundles
 pub mod Runs
 pub mod Slips
+pub mod FieldSlips

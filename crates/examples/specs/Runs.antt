@@ -1,16 +1,22 @@
 -- Accepted bundles, a schedule of each, and what document 01 answers to it.
-use mathlib.Core.List.{List, [], _∷_, _++_}
+use mathlib.Core.List.{List, [], _∷_, _++_, map}
+use mathlib.Core.Path.{_≡_}
 use mathlib.Core.Bool.{true, false}
-use Prim.Native.Nat.{ℕ, zero, suc}
+use Prim.Native.Nat.{ℕ}
+use lib.ListN.{replicate}
 use Rattle.state.specs.declared.State.{State}
-use Rattle.machine.specs.Machine.{freshOf}
-use Rattle.machine.specs.Runs.{Step, answer, after}
+use Rattle.machine.specs.Machine.{freshOf, stepOf}
+use Rattle.machine.specs.Runs.{Step}
+use Rattle.verifier.specs.Verdict.{verdictOf}
 use Rattle.cases.specs.Cases.{caseA}
+use Rattle.examples.specs.Bundles.{i, inc, pop, push0, load, store, branch, enter, exit, new, start, returns, getfield, putfield, top, int, none, free, owing, nullable, line, source, bundleOf}
 
 -- the answers of a list of steps, one after another
 unfoldable pub answersFrom : List ℕ → State → List Step → List ℕ
 answersFrom b s [] = []
-answersFrom b s (x ∷ xs) = answer b s x ∷ answersFrom b (after b s x) xs
+answersFrom b s (x ∷ xs) =
+    let r = stepOf b s (x .who) (x .fails) in
+    r .answer ∷ answersFrom b (r .state) xs
 
 abbrev pub answers : List ℕ → List Step → List ℕ
 answers b xs = answersFrom b (freshOf b .state) xs
@@ -22,34 +28,17 @@ by n = record { who = n; fails = false }
 abbrev pub failing : ℕ → Step
 failing n = record { who = n; fails = true }
 
--- n steps of thread 0
+-- n steps of a thread, and of thread 0
+abbrev pub turns : ℕ → ℕ → List Step
+turns who n = replicate n (by who)
+
 abbrev pub main : ℕ → List Step
-main zero = []
-main (suc n) = by 0 ∷ main n
+main n = turns 0 n
 
 pub record Run : Type 0 where
   pub bundle : List ℕ
   pub schedule : List Step
   pub wanted : List ℕ
-
-abbrev pub i : ℕ → ℕ → ℕ → List ℕ
-i opcode operand address = opcode ∷ operand ∷ 0 ∷ address ∷ []
-
-abbrev pub top : List ℕ
-top = 2 ∷ 0 ∷ 0 ∷ 0 ∷ []
-
-abbrev pub int : List ℕ
-int = 1 ∷ 0 ∷ 0 ∷ 0 ∷ []
-
-abbrev pub none : List ℕ
-none = 0 ∷ 0 ∷ 0 ∷ 0 ∷ []
-
--- a reference of class c with (0,0), and with (1,-1)
-abbrev pub free : ℕ → List ℕ
-free c = 3 ∷ c ∷ 0 ∷ 64 ∷ []
-
-abbrev pub owing : ℕ → List ℕ
-owing c = 3 ∷ c ∷ 1 ∷ 63 ∷ []
 
 -- a row of one variable and one stack entry
 abbrev pub row : List ℕ → ℕ → List ℕ → List ℕ
@@ -132,11 +121,71 @@ caughtThrow =
     ++ (0 ∷ 0 ∷ 0 ∷ 1 ∷ 2 ∷ 0 ∷ 0 ∷ 9 ∷ [])
     ++ (0 ∷ 153 ∷ 1 ∷ 0 ∷ 0 ∷ 169 ∷ 76 ∷ 75 ∷ [])
 
+-- main makes a box, starts a worker with it, takes a lock, puts it into the box's field and gives it back;
+-- the worker reads the field, takes what it read, gives it back and ends; where it read null, its handler goes back to 1
+abbrev pub shared : List ℕ
+shared =
+    bundleOf 1
+    (source 2 2 [] (1 ∷ [])
+    (line (new 0 0) (top ∷ top ∷ []) []
+    ∷ line (store 0) (top ∷ top ∷ []) (free 0 ∷ [])
+    ∷ line (new 1 0) (free 0 ∷ top ∷ []) []
+    ∷ line (load 0) (free 0 ∷ top ∷ []) (free 1 ∷ [])
+    ∷ line (start 1) (free 0 ∷ top ∷ []) (free 0 ∷ free 1 ∷ [])
+    ∷ line (new 1 0) (free 0 ∷ top ∷ []) []
+    ∷ line (store 1) (free 0 ∷ top ∷ []) (free 1 ∷ [])
+    ∷ line (enter 1 0) (free 0 ∷ free 1 ∷ []) []
+    ∷ line (load 0) (free 0 ∷ owing 1 ∷ []) []
+    ∷ line (load 1) (free 0 ∷ owing 1 ∷ []) (free 0 ∷ [])
+    ∷ line (putfield 0 0 0) (free 0 ∷ owing 1 ∷ []) (free 1 ∷ free 0 ∷ [])
+    ∷ line (exit 1) (free 0 ∷ owing 1 ∷ []) []
+    ∷ line returns (free 0 ∷ free 1 ∷ []) []
+    ∷ [])
+    ∷ source 2 2 (0 ∷ []) []
+    (line (load 0) (free 0 ∷ top ∷ []) []
+    ∷ line (getfield 0 0 0) (free 0 ∷ top ∷ []) (free 0 ∷ [])
+    ∷ line (store 1) (free 0 ∷ top ∷ []) (nullable 1 ∷ [])
+    ∷ line (enter 1 7) (free 0 ∷ nullable 1 ∷ []) []
+    ∷ line (exit 1) (free 0 ∷ owing 1 ∷ []) []
+    ∷ line returns (free 0 ∷ free 1 ∷ []) []
+    ∷ line pop (free 0 ∷ nullable 1 ∷ []) (free 1 ∷ [])
+    ∷ line push0 (free 0 ∷ nullable 1 ∷ []) []
+    ∷ line inc (free 0 ∷ nullable 1 ∷ []) (int ∷ [])
+    ∷ line (branch 1) (free 0 ∷ nullable 1 ∷ []) (int ∷ [])
+    ∷ line returns (free 0 ∷ nullable 1 ∷ []) []
+    ∷ [])
+    ∷ [])
+
+-- an owner from a field that is null, at putfield and getfield, each with a handler; the lock is given back on both ways
+abbrev pub nullOwner : List ℕ
+nullOwner =
+    bundleOf 0
+    (source 1 3 [] (0 ∷ 255 ∷ [])
+    (line (new 0 0) (top ∷ []) []
+    ∷ line (store 0) (top ∷ []) (free 0 ∷ [])
+    ∷ line (enter 0 0) (free 0 ∷ []) []
+    ∷ line (load 0) (owing 0 ∷ []) []
+    ∷ line (getfield 0 0 0) (owing 0 ∷ []) (free 0 ∷ [])
+    ∷ line push0 (owing 0 ∷ []) (nullable 0 ∷ [])
+    ∷ line (putfield 0 1 13) (owing 0 ∷ []) (int ∷ nullable 0 ∷ [])
+    ∷ line (load 0) (owing 0 ∷ []) []
+    ∷ line (getfield 0 0 0) (owing 0 ∷ []) (free 0 ∷ [])
+    ∷ line (getfield 0 1 13) (owing 0 ∷ []) (nullable 0 ∷ [])
+    ∷ line pop (owing 0 ∷ []) (int ∷ [])
+    ∷ line (new 0 13) (owing 0 ∷ []) []
+    ∷ line (exit 0) (owing 0 ∷ []) (free 0 ∷ [])
+    ∷ line returns (free 0 ∷ []) (free 0 ∷ [])
+    ∷ [])
+    ∷ [])
+
 -- case A: thread 0 takes the lock, falls through, gives it back and ends;
 -- A with an inc: it takes the other arm and ends too;
 -- two threads: the second waits (3) while the first holds, then goes on; both end;
 -- a failed new is caught, the caught object is locked, given back and thrown again, and the thread ends uncaught (2);
--- a locked object is thrown, caught, and given back
+-- a locked object is thrown, caught, and given back;
+-- the worker reads null and catches it, reads the lock, waits (3) while main holds it, takes it and gives it back; both end, and then neither lives (5);
+-- the same where main's lock can't be made: main ends uncaught, and the worker goes round;
+-- putfield meets a null owner, and the handler gives the lock back
 abbrev pub runs : List Run
 runs =
     record { bundle = caseA; schedule = main 7; wanted = 0 ∷ 0 ∷ 0 ∷ 0 ∷ 0 ∷ 0 ∷ 1 ∷ [] }
@@ -148,4 +197,22 @@ runs =
     }
     ∷ record { bundle = caughtNew; schedule = failing 0 ∷ main 5; wanted = 0 ∷ 0 ∷ 0 ∷ 0 ∷ 0 ∷ 2 ∷ [] }
     ∷ record { bundle = caughtThrow; schedule = main 9; wanted = 0 ∷ 0 ∷ 0 ∷ 0 ∷ 0 ∷ 0 ∷ 0 ∷ 0 ∷ 1 ∷ [] }
+    ∷ record {
+      bundle = shared;
+      schedule = main 5 ++ turns 1 8 ++ main 6 ++ turns 1 4 ++ (by 0 ∷ by 1 ∷ by 0 ∷ by 1 ∷ by 1 ∷ by 0 ∷ by 1 ∷ []);
+      wanted = replicate 22 0 ++ (3 ∷ 0 ∷ 0 ∷ 1 ∷ 0 ∷ 1 ∷ 5 ∷ 5 ∷ []);
+    }
+    ∷ record { bundle = shared; schedule = main 5 ++ (failing 0 ∷ turns 1 12) ++ main 1; wanted = replicate 5 0 ++ (2 ∷ replicate 12 0) ++ (5 ∷ []) }
+    ∷ record { bundle = nullOwner; schedule = main 10; wanted = 0 ∷ 0 ∷ 0 ∷ 0 ∷ 0 ∷ 0 ∷ 0 ∷ 0 ∷ 1 ∷ 5 ∷ [] }
     ∷ []
+
+-- the verdict's number and the answers, as they are found and as they are wanted: each bundle is accepted
+abbrev pub ran : Run → ℕ × List ℕ
+ran r = (verdictOf (r .bundle) .number, answers (r .bundle) (r .schedule))
+
+abbrev pub wantedOf : Run → ℕ × List ℕ
+wantedOf r = (0, r .wanted)
+
+-- demand 3 is not empty: what accepted bundles do (`runs-hold`)
+abbrev pub RunsHold : Type 0
+RunsHold = map ran runs ≡ map wantedOf runs

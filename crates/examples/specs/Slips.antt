@@ -1,9 +1,12 @@
 -- Slips that weaken a rule: for each, the weakened rule, a bundle that it lets through where document 01's rule refuses, and a schedule that then faults.
-use mathlib.Core.List.{List, [], _∷_, _++_}
+use mathlib.Core.List.{List, [], _∷_, _++_, map}
+use mathlib.Core.Path.{_≡_}
 use mathlib.Core.Bool.{Bool, true, _&&_}
 use Prim.Native.Nat.{ℕ, _-_}
 use lib.Dec.{leb, eqb}
 use Rattle.ground.specs.Bounded.{allBelow}
+use Rattle.structure.specs.declared.Verdict.{Verdict}
+use Rattle.structure.specs.Verdicts.{ruleFails}
 use Rattle.bundle.specs.Container.{classes, classAt, partOf}
 use Rattle.entries.specs.Entries.{Entry, endOf, isInt, isReference, isOf}
 use Rattle.entries.specs.Fits.{mayGo, takes, Want}
@@ -12,10 +15,12 @@ use Rattle.matching.specs.Matching.{popped, pushed, stored, emptied, wants, wan
 use Rattle.rules.specs.Rule.{Rule, rule, ruleHolds}
 use Rattle.rules.specs.Rules.{uncaughtGoes, thrown, made}
 use Rattle.machine.specs.Runs.{Step}
-use Rattle.examples.specs.Runs.{failing, main, i, top, int, none, free, owing, row, double}
+use Rattle.verifier.specs.Verdict.{verdictOf}
+use Rattle.examples.specs.Bundles.{i, top, int, none, free, owing}
+use Rattle.examples.specs.Runs.{answers, failing, main, row, double}
 
 -- row l of class 0
-abbrev at : List ℕ → ℕ → Row
+abbrev pub at : List ℕ → ℕ → Row
 at b l = rowAt (classes b) (classAt b 0) (partOf b (classAt b 0)) l
 
 -- ---- the weakened rules
@@ -272,3 +277,14 @@ slips =
     ∷ record { bundle = restEnds; address = 6; why = 0; weakened = ruleHolds 1 (endsWithRest 1 (at restEnds 6)); schedule = main 6; wanted = 0 ∷ 0 ∷ 0 ∷ 0 ∷ 0 ∷ 15 ∷ [] }
     ∷ record { bundle = varEnds; address = 5; why = 0; weakened = ruleHolds 1 (endsWithVars (at varEnds 5)); schedule = main 5; wanted = 0 ∷ 0 ∷ 0 ∷ 0 ∷ 15 ∷ [] }
     ∷ []
+
+-- the verdict, what the weakened rule says and the answers, as they are found and as they are wanted: refused at the address, let through there, and the schedule ends in a fault
+abbrev pub found : Slip → Verdict × Bool × List ℕ
+found s = (verdictOf (s .bundle), s .weakened, answers (s .bundle) (s .schedule))
+
+abbrev pub wantedOf : Slip → Verdict × Bool × List ℕ
+wantedOf s = (ruleFails 0 (s .address) (s .why), true, s .wanted)
+
+-- no rule is idle: what each slip would let through faults (`slips-hold`)
+abbrev pub SlipsHold : Type 0
+SlipsHold = map found slips ≡ map wantedOf slips
