@@ -3,17 +3,17 @@ use mathlib.Core.List.{List, [], _∷_, map}
 use mathlib.Core.Path.{_≡_}
 use mathlib.Core.Bool.{Bool, true, cond, _&&_, _||_}
 use Prim.Native.Nat.{ℕ, _+_}
-use lib.Dec.{leb, eqb}
+use lib.Dec.{leb}
 use Rattle.ground.specs.Bounded.{allBelow}
 use Rattle.entries.specs.Entries.{Entry, Int, dipOf, endOf, classOf, isTop, isReference, isNullable, mayBeOf, fieldEntry, matchesField}
-use Rattle.entries.specs.Fits.{mayGo, takes, Want, want, wantEntered}
+use Rattle.entries.specs.Fits.{mayGo, takes, Want, wantEntered}
 use Rattle.rows.specs.Rows.{Row}
 use Rattle.matching.specs.Matching.{popped, pushed, stored, emptied, Wants, wants, wantsAt, Edge, edge, varsGo, stackGoes}
-use Rattle.rules.specs.Rule.{Rule, rule, ruleHolds}
+use Rattle.rules.specs.Rule.{Rule, rule}
 use Rattle.rules.specs.Rules.{made, thrown, unnulled, ownerGoes, objectGoes}
 use Rattle.examples.specs.Bundles.{pop, push0, load, store, enter, exit, new, start, athrow, returns, getfield, putfield, top, int, reference, free, owing, nullable, line, source, bundleOf}
 use Rattle.examples.specs.Runs.{main}
-use Rattle.examples.specs.Slips.{at, Slip, found, wantedOf}
+use Rattle.examples.specs.Slips.{Slip, found, wantedOf}
 
 -- ---- the weakened rules, X being class 0 and the handler's row z: what fits
 -- each entry of a row as w says
@@ -78,11 +78,11 @@ enterNull v x y throws = rule (isNullable (x .variable v) && stackGoes x) (edge 
 abbrev enterToEmpty : ℕ → Row → Row → Row → Rule
 enterToEmpty v x y z = enterNull v x y (edge (emptied x) (wants z) ∷ [])
 
--- the handler's only entry not compared
+-- the handler's only entry compared with itself
 abbrev enterToAny : ℕ → Row → Row → Row → Rule
-enterToAny v x y z = enterNull v x y (edge (emptied x) (wants (emptied z)) ∷ [])
+enterToAny v x y z = enterNull v x y (edge (pushed (z .stack 0) (emptied x)) (wants z) ∷ [])
 
--- the handler's variables not compared
+-- the handler's variables compared with themselves
 abbrev enterToAnyVariables : ℕ → Row → Row → Row → Rule
 enterToAnyVariables v x y z = enterNull v x y (edge (pushed (made 0) (emptied z)) (wants z) ∷ [])
 
@@ -107,9 +107,10 @@ getMakes c d x y = rule (leb 1 (x .depth) && ownerGoes c (x .stack 0)) (edge (pu
 abbrev getOwing : ℕ → ℕ → Row → Row → Rule
 getOwing c d x y = rule (leb 1 (x .depth) && mayBeOf c (x .stack 0)) (edge (pushed (fieldEntry d) (popped 1 x)) (wants y) ∷ [])
 
--- a value that doesn't match the descriptor
-abbrev putAny : ℕ → Row → Row → Rule
-putAny c x y = rule (leb 2 (x .depth) && mayGo (x .stack 0) && ownerGoes c (x .stack 1)) (edge (popped 2 x) (wants y) ∷ [])
+-- a value that is Top
+abbrev putTop : ℕ → ℕ → Row → Row → Rule
+putTop c d x y =
+    rule (leb 2 (x .depth) && ((isTop (x .stack 0) || matchesField d (x .stack 0)) && mayGo (x .stack 0)) && ownerGoes c (x .stack 1)) (edge (popped 2 x) (wants y) ∷ [])
 
 -- a value with a negative end
 abbrev putOwing : ℕ → ℕ → Row → Row → Rule
@@ -339,8 +340,8 @@ ownerOwing =
     ∷ [])
 
 -- an object goes into an integer field
-abbrev anyValue : List ℕ
-anyValue =
+abbrev topValue : List ℕ
+topValue =
     bundleOf 0
     (source 0 2 [] (255 ∷ [])
     (line (new 0 0) [] []
@@ -365,44 +366,28 @@ valueOwing =
     ∷ [])
     ∷ [])
 
--- ---- the slips: what fits, and what still needs a reference that may not be null
-abbrev pub fitSlips : List Slip
-fitSlips =
-    record { bundle = anyClass; address = 4; why = 1; weakened = ruleHolds 1 (loadAnyClass 0 (at anyClass 4) (at anyClass 5)); schedule = main 5; wanted = 0 ∷ 0 ∷ 0 ∷ 0 ∷ 13 ∷ [] }
-    ∷ record { bundle = forgotten; address = 4; why = 3; weakened = ruleHolds 1 (pushForgets (at forgotten 4) (at forgotten 5)); schedule = main 5; wanted = 0 ∷ 0 ∷ 0 ∷ 0 ∷ 15 ∷ [] }
-    ∷ record { bundle = trusted; address = 3; why = 1; weakened = ruleHolds 1 (storeTrusts 0 (at trusted 3) (at trusted 4)); schedule = main 5; wanted = 0 ∷ 0 ∷ 0 ∷ 0 ∷ 13 ∷ [] }
-    ∷ record { bundle = fromTop; address = 3; why = 1; weakened = ruleHolds 1 (loadFromTop 0 (at fromTop 3) (at fromTop 4)); schedule = main 4; wanted = 0 ∷ 0 ∷ 0 ∷ 13 ∷ [] }
-    ∷ record { bundle = exitsNull; address = 4; why = 0; weakened = ruleHolds 1 (exitNull 0 (at exitsNull 4) (at exitsNull 5)); schedule = main 4; wanted = 0 ∷ 0 ∷ 0 ∷ 13 ∷ [] }
-    ∷ record { bundle = startsWithNull; address = 4; why = 0; weakened = ruleHolds 0 (startNull 1 (λ j. 1) 1 (at startsWithNull 4) (at startsWithNull 5)); schedule = main 4; wanted = 0 ∷ 0 ∷ 0 ∷ 13 ∷ [] }
-    ∷ []
-
--- the throw of null
-abbrev pub throwSlips : List Slip
-throwSlips =
-    record { bundle = stackKept; address = 7; why = 0; weakened = ruleHolds 1 (getKeepsStack 0 0 10 (at stackKept 7) (at stackKept 8) (at stackKept 10)); schedule = main 8; wanted = 0 ∷ 0 ∷ 0 ∷ 0 ∷ 0 ∷ 0 ∷ 0 ∷ 15 ∷ [] }
-    ∷ record { bundle = depthUnasked; address = 4; why = 0; weakened = ruleHolds 1 (enterToEmpty 0 (at depthUnasked 4) (at depthUnasked 5) (at depthUnasked 6)); schedule = main 5; wanted = 0 ∷ 0 ∷ 0 ∷ 0 ∷ 12 ∷ [] }
-    ∷ record { bundle = entryUnasked; address = 4; why = 3; weakened = ruleHolds 1 (enterToAny 0 (at entryUnasked 4) (at entryUnasked 5) (at entryUnasked 7)); schedule = main 7; wanted = 0 ∷ 0 ∷ 0 ∷ 0 ∷ 0 ∷ 0 ∷ 15 ∷ [] }
-    ∷ record { bundle = variablesUnasked; address = 7; why = 3; weakened = ruleHolds 2 (enterToAnyVariables 0 (at variablesUnasked 7) (at variablesUnasked 8) (at variablesUnasked 11)); schedule = main 8; wanted = 0 ∷ 0 ∷ 0 ∷ 0 ∷ 0 ∷ 0 ∷ 0 ∷ 15 ∷ [] }
-    ∷ record { bundle = variablesKept; address = 7; why = 0; weakened = ruleHolds 2 (enterSkips 0 (at variablesKept 7) (at variablesKept 8)); schedule = main 7; wanted = 0 ∷ 0 ∷ 0 ∷ 0 ∷ 0 ∷ 0 ∷ 15 ∷ [] }
-    ∷ record { bundle = lockTrusted; address = 4; why = 1; weakened = ruleHolds 1 (enterTrusts 0 (at lockTrusted 4) (at lockTrusted 5) (at lockTrusted 7)); schedule = main 7; wanted = 0 ∷ 0 ∷ 0 ∷ 0 ∷ 0 ∷ 0 ∷ 13 ∷ [] }
-    ∷ []
-
--- what the new instructions give and take
+-- in the order of the rules above: what fits, what still needs a reference that may not be null, the throw of null, what the new instructions give and take
 abbrev pub fieldSlips : List Slip
 fieldSlips =
-    record { bundle = unentered; address = 3; why = 3; weakened = ruleHolds 1 (enterToZero 1 0 (at unentered 3) (at unentered 4)); schedule = main 4; wanted = 0 ∷ 0 ∷ 0 ∷ 15 ∷ [] }
-    ∷ record { bundle = madeByGet; address = 2; why = 1; weakened = ruleHolds 0 (getMakes 0 0 (at madeByGet 2) (at madeByGet 3)); schedule = main 3; wanted = 0 ∷ 0 ∷ 13 ∷ [] }
-    ∷ record { bundle = ownerOwing; address = 5; why = 0; weakened = ruleHolds 1 (getOwing 0 255 (at ownerOwing 5) (at ownerOwing 6)); schedule = main 6; wanted = 0 ∷ 0 ∷ 0 ∷ 0 ∷ 0 ∷ 15 ∷ [] }
-    ∷ record { bundle = anyValue; address = 3; why = 0; weakened = ruleHolds 0 (putAny 0 (at anyValue 3) (at anyValue 4)); schedule = main 3; wanted = 0 ∷ 0 ∷ 13 ∷ [] }
-    ∷ record { bundle = valueOwing; address = 6; why = 0; weakened = ruleHolds 1 (putOwing 0 0 (at valueOwing 6) (at valueOwing 7)); schedule = main 7; wanted = 0 ∷ 0 ∷ 0 ∷ 0 ∷ 0 ∷ 0 ∷ 15 ∷ [] }
+    record { bundle = anyClass; address = 4; why = 1; weaker = λ rows. loadAnyClass 0 (rows 4) (rows 5); schedule = main 5; wanted = 0 ∷ 0 ∷ 0 ∷ 0 ∷ 13 ∷ [] }
+    ∷ record { bundle = forgotten; address = 4; why = 3; weaker = λ rows. pushForgets (rows 4) (rows 5); schedule = main 5; wanted = 0 ∷ 0 ∷ 0 ∷ 0 ∷ 15 ∷ [] }
+    ∷ record { bundle = trusted; address = 3; why = 1; weaker = λ rows. storeTrusts 0 (rows 3) (rows 4); schedule = main 5; wanted = 0 ∷ 0 ∷ 0 ∷ 0 ∷ 13 ∷ [] }
+    ∷ record { bundle = fromTop; address = 3; why = 1; weaker = λ rows. loadFromTop 0 (rows 3) (rows 4); schedule = main 4; wanted = 0 ∷ 0 ∷ 0 ∷ 13 ∷ [] }
+    ∷ record { bundle = exitsNull; address = 4; why = 0; weaker = λ rows. exitNull 0 (rows 4) (rows 5); schedule = main 4; wanted = 0 ∷ 0 ∷ 0 ∷ 13 ∷ [] }
+    ∷ record { bundle = startsWithNull; address = 4; why = 0; weaker = λ rows. startNull 1 (λ j. 1) 1 (rows 4) (rows 5); schedule = main 4; wanted = 0 ∷ 0 ∷ 0 ∷ 13 ∷ [] }
+    ∷ record { bundle = stackKept; address = 7; why = 0; weaker = λ rows. getKeepsStack 0 0 10 (rows 7) (rows 8) (rows 10); schedule = main 8; wanted = 0 ∷ 0 ∷ 0 ∷ 0 ∷ 0 ∷ 0 ∷ 0 ∷ 15 ∷ [] }
+    ∷ record { bundle = depthUnasked; address = 4; why = 0; weaker = λ rows. enterToEmpty 0 (rows 4) (rows 5) (rows 6); schedule = main 5; wanted = 0 ∷ 0 ∷ 0 ∷ 0 ∷ 12 ∷ [] }
+    ∷ record { bundle = entryUnasked; address = 4; why = 3; weaker = λ rows. enterToAny 0 (rows 4) (rows 5) (rows 7); schedule = main 7; wanted = 0 ∷ 0 ∷ 0 ∷ 0 ∷ 0 ∷ 0 ∷ 15 ∷ [] }
+    ∷ record { bundle = variablesUnasked; address = 7; why = 3; weaker = λ rows. enterToAnyVariables 0 (rows 7) (rows 8) (rows 11); schedule = main 8; wanted = 0 ∷ 0 ∷ 0 ∷ 0 ∷ 0 ∷ 0 ∷ 0 ∷ 15 ∷ [] }
+    ∷ record { bundle = variablesKept; address = 7; why = 0; weaker = λ rows. enterSkips 0 (rows 7) (rows 8); schedule = main 7; wanted = 0 ∷ 0 ∷ 0 ∷ 0 ∷ 0 ∷ 0 ∷ 15 ∷ [] }
+    ∷ record { bundle = lockTrusted; address = 4; why = 1; weaker = λ rows. enterTrusts 0 (rows 4) (rows 5) (rows 7); schedule = main 7; wanted = 0 ∷ 0 ∷ 0 ∷ 0 ∷ 0 ∷ 0 ∷ 13 ∷ [] }
+    ∷ record { bundle = unentered; address = 3; why = 3; weaker = λ rows. enterToZero 1 0 (rows 3) (rows 4); schedule = main 4; wanted = 0 ∷ 0 ∷ 0 ∷ 15 ∷ [] }
+    ∷ record { bundle = madeByGet; address = 2; why = 1; weaker = λ rows. getMakes 0 0 (rows 2) (rows 3); schedule = main 3; wanted = 0 ∷ 0 ∷ 13 ∷ [] }
+    ∷ record { bundle = ownerOwing; address = 5; why = 0; weaker = λ rows. getOwing 0 255 (rows 5) (rows 6); schedule = main 6; wanted = 0 ∷ 0 ∷ 0 ∷ 0 ∷ 0 ∷ 15 ∷ [] }
+    ∷ record { bundle = topValue; address = 3; why = 0; weaker = λ rows. putTop 0 255 (rows 3) (rows 4); schedule = main 3; wanted = 0 ∷ 0 ∷ 13 ∷ [] }
+    ∷ record { bundle = valueOwing; address = 6; why = 0; weaker = λ rows. putOwing 0 0 (rows 6) (rows 7); schedule = main 7; wanted = 0 ∷ 0 ∷ 0 ∷ 0 ∷ 0 ∷ 0 ∷ 15 ∷ [] }
     ∷ []
 
--- none of these clauses is idle: what each slip would let through faults (`fit-slips-hold`, `throw-slips-hold`, `field-slips-hold`)
-abbrev pub FitSlipsHold : Type 0
-FitSlipsHold = map found fitSlips ≡ map wantedOf fitSlips
-
-abbrev pub ThrowSlipsHold : Type 0
-ThrowSlipsHold = map found throwSlips ≡ map wantedOf throwSlips
-
+-- none of these clauses is idle: what each slip would let through faults (`field-slips-hold`)
 abbrev pub FieldSlipsHold : Type 0
 FieldSlipsHold = map found fieldSlips ≡ map wantedOf fieldSlips

@@ -7,10 +7,10 @@ use lib.Dec.{leb, eqb}
 use Rattle.ground.specs.Bounded.{allBelow}
 use Rattle.structure.specs.declared.Verdict.{Verdict}
 use Rattle.structure.specs.Verdicts.{ruleFails}
-use Rattle.bundle.specs.Container.{classes, classAt, partOf}
 use Rattle.entries.specs.Entries.{Entry, endOf, isInt, isReference, isOf}
 use Rattle.entries.specs.Fits.{mayGo, takes, Want}
-use Rattle.rows.specs.Rows.{Row, rowAt}
+use Rattle.rows.specs.Rows.{Row}
+use Rattle.rows.specs.Typed.{Typed, typedOf}
 use Rattle.matching.specs.Matching.{popped, pushed, stored, emptied, wants, wantsAt, edge, varsGo, stackGoes}
 use Rattle.rules.specs.Rule.{Rule, rule, ruleHolds}
 use Rattle.rules.specs.Rules.{uncaughtGoes, thrown, made}
@@ -18,10 +18,6 @@ use Rattle.machine.specs.Runs.{Step}
 use Rattle.verifier.specs.Verdict.{verdictOf}
 use Rattle.examples.specs.Bundles.{i, top, int, none, free, owing}
 use Rattle.examples.specs.Runs.{answers, failing, main, row, double}
-
--- row l of class 0
-abbrev pub at : List ℕ → ℕ → Row
-at b l = rowAt (classes b) (classAt b 0) (partOf b (classAt b 0)) l
 
 -- ---- the weakened rules
 -- the pair copied at load instead of split
@@ -249,38 +245,42 @@ topEnds = locks ++ i 4 0 0 ++ i 11 0 0 ++ locked ++ row (free 0) 1 (owing 0) ++ 
 abbrev varEnds : List ℕ
 varEnds = locks ++ i 4 0 0 ++ i 11 0 0 ++ locked ++ row (owing 0) 1 (free 0) ++ one 65 5 81
 
--- what the weakened rule says at the address, where document 01's verdict is 9 with this why; and the answers of a schedule
+-- the address of class 0 where document 01's verdict is 9 with this why, the weakened rule there, of the rows of class 0, and the answers of a schedule
 pub record Slip : Type 0 where
   pub bundle : List ℕ
   pub address : ℕ
   pub why : ℕ
-  pub weakened : Bool
+  pub weaker : (ℕ → Row) → Rule
   pub schedule : List Step
   pub wanted : List ℕ
 
 abbrev pub slips : List Slip
 slips =
-    record { bundle = copied; address = 4; why = 2; weakened = ruleHolds 2 (loadCopies 0 (at copied 4) (at copied 5)); schedule = main 7; wanted = 0 ∷ 0 ∷ 0 ∷ 0 ∷ 0 ∷ 0 ∷ 14 ∷ [] }
-    ∷ record { bundle = oneArm; address = 6; why = 3; weakened = ruleHolds 1 (ifOneArm (at oneArm 6) (at oneArm 7)); schedule = main 7; wanted = 0 ∷ 0 ∷ 0 ∷ 0 ∷ 0 ∷ 0 ∷ 15 ∷ [] }
-    ∷ record { bundle = skipped; address = 4; why = 0; weakened = ruleHolds 1 (newSkips 0 (at skipped 4) (at skipped 5)); schedule = main 3 ++ (failing 0 ∷ []); wanted = 0 ∷ 0 ∷ 0 ∷ 15 ∷ [] }
-    ∷ record { bundle = dropped; address = 5; why = 0; weakened = ruleHolds 1 (storeDrops 0 (at dropped 5) (at dropped 6)); schedule = main 6; wanted = 0 ∷ 0 ∷ 0 ∷ 0 ∷ 0 ∷ 15 ∷ [] }
-    ∷ record { bundle = kept; address = 4; why = 0; weakened = ruleHolds 1 (returnAtMinusOne 1 (at kept 4)); schedule = main 4; wanted = 0 ∷ 0 ∷ 0 ∷ 15 ∷ [] }
-    ∷ record { bundle = unheld; address = 3; why = 2; weakened = ruleHolds 1 (exitWithoutDip 0 (at unheld 3) (at unheld 4)); schedule = main 3; wanted = 0 ∷ 0 ∷ 14 ∷ [] }
-    ∷ record { bundle = toEmpty; address = 1; why = 0; weakened = ruleHolds 1 (newToEmpty 0 (at toEmpty 1) (at toEmpty 2) (at toEmpty 4)); schedule = failing 0 ∷ main 1; wanted = 0 ∷ 12 ∷ [] }
-    ∷ record { bundle = toDeeper; address = 1; why = 0; weakened = ruleHolds 1 (newToDeeper 0 (at toDeeper 1) (at toDeeper 2) (at toDeeper 4)); schedule = failing 0 ∷ main 2; wanted = 0 ∷ 0 ∷ 11 ∷ [] }
-    ∷ record { bundle = toAny; address = 1; why = 2; weakened = ruleHolds 1 (newToAny 0 (at toAny 1) (at toAny 2) (at toAny 4)); schedule = failing 0 ∷ main 2; wanted = 0 ∷ 0 ∷ 14 ∷ [] }
-    ∷ record { bundle = toAnyVariables; address = 4; why = 3; weakened = ruleHolds 1 (newToAnyVariables 0 (at toAnyVariables 4) (at toAnyVariables 5) (at toAnyVariables 8)); schedule = main 3 ++ (failing 0 ∷ main 2); wanted = 0 ∷ 0 ∷ 0 ∷ 0 ∷ 0 ∷ 15 ∷ [] }
-    ∷ record { bundle = onStack; address = 5; why = 0; weakened = ruleHolds 1 (newKeepsStack 1 0 (at onStack 5) (at onStack 6)); schedule = main 4 ++ (failing 0 ∷ []); wanted = 0 ∷ 0 ∷ 0 ∷ 0 ∷ 15 ∷ [] }
-    ∷ record { bundle = otherClass; address = 2; why = 0; weakened = ruleHolds 1 (throwAny 1 0 (at otherClass 2) (at otherClass 2)); schedule = main 2; wanted = 0 ∷ 13 ∷ [] }
-    ∷ record { bundle = restKept; address = 6; why = 0; weakened = ruleHolds 1 (throwKeepsRest 7 (at restKept 6) (at restKept 7)); schedule = main 8; wanted = 0 ∷ 0 ∷ 0 ∷ 0 ∷ 0 ∷ 0 ∷ 0 ∷ 15 ∷ [] }
-    ∷ record { bundle = topEnds; address = 5; why = 0; weakened = ruleHolds 1 (endsWithTop 1 (at topEnds 5)); schedule = main 5; wanted = 0 ∷ 0 ∷ 0 ∷ 0 ∷ 15 ∷ [] }
-    ∷ record { bundle = restEnds; address = 6; why = 0; weakened = ruleHolds 1 (endsWithRest 1 (at restEnds 6)); schedule = main 6; wanted = 0 ∷ 0 ∷ 0 ∷ 0 ∷ 0 ∷ 15 ∷ [] }
-    ∷ record { bundle = varEnds; address = 5; why = 0; weakened = ruleHolds 1 (endsWithVars (at varEnds 5)); schedule = main 5; wanted = 0 ∷ 0 ∷ 0 ∷ 0 ∷ 15 ∷ [] }
+    record { bundle = copied; address = 4; why = 2; weaker = λ rows. loadCopies 0 (rows 4) (rows 5); schedule = main 7; wanted = 0 ∷ 0 ∷ 0 ∷ 0 ∷ 0 ∷ 0 ∷ 14 ∷ [] }
+    ∷ record { bundle = oneArm; address = 6; why = 3; weaker = λ rows. ifOneArm (rows 6) (rows 7); schedule = main 7; wanted = 0 ∷ 0 ∷ 0 ∷ 0 ∷ 0 ∷ 0 ∷ 15 ∷ [] }
+    ∷ record { bundle = skipped; address = 4; why = 0; weaker = λ rows. newSkips 0 (rows 4) (rows 5); schedule = main 3 ++ (failing 0 ∷ []); wanted = 0 ∷ 0 ∷ 0 ∷ 15 ∷ [] }
+    ∷ record { bundle = dropped; address = 5; why = 0; weaker = λ rows. storeDrops 0 (rows 5) (rows 6); schedule = main 6; wanted = 0 ∷ 0 ∷ 0 ∷ 0 ∷ 0 ∷ 15 ∷ [] }
+    ∷ record { bundle = kept; address = 4; why = 0; weaker = λ rows. returnAtMinusOne 1 (rows 4); schedule = main 4; wanted = 0 ∷ 0 ∷ 0 ∷ 15 ∷ [] }
+    ∷ record { bundle = unheld; address = 3; why = 2; weaker = λ rows. exitWithoutDip 0 (rows 3) (rows 4); schedule = main 3; wanted = 0 ∷ 0 ∷ 14 ∷ [] }
+    ∷ record { bundle = toEmpty; address = 1; why = 0; weaker = λ rows. newToEmpty 0 (rows 1) (rows 2) (rows 4); schedule = failing 0 ∷ main 1; wanted = 0 ∷ 12 ∷ [] }
+    ∷ record { bundle = toDeeper; address = 1; why = 0; weaker = λ rows. newToDeeper 0 (rows 1) (rows 2) (rows 4); schedule = failing 0 ∷ main 2; wanted = 0 ∷ 0 ∷ 11 ∷ [] }
+    ∷ record { bundle = toAny; address = 1; why = 2; weaker = λ rows. newToAny 0 (rows 1) (rows 2) (rows 4); schedule = failing 0 ∷ main 2; wanted = 0 ∷ 0 ∷ 14 ∷ [] }
+    ∷ record { bundle = toAnyVariables; address = 4; why = 3; weaker = λ rows. newToAnyVariables 0 (rows 4) (rows 5) (rows 8); schedule = main 3 ++ (failing 0 ∷ main 2); wanted = 0 ∷ 0 ∷ 0 ∷ 0 ∷ 0 ∷ 15 ∷ [] }
+    ∷ record { bundle = onStack; address = 5; why = 0; weaker = λ rows. newKeepsStack 1 0 (rows 5) (rows 6); schedule = main 4 ++ (failing 0 ∷ []); wanted = 0 ∷ 0 ∷ 0 ∷ 0 ∷ 15 ∷ [] }
+    ∷ record { bundle = otherClass; address = 2; why = 0; weaker = λ rows. throwAny 1 0 (rows 2) (rows 2); schedule = main 2; wanted = 0 ∷ 13 ∷ [] }
+    ∷ record { bundle = restKept; address = 6; why = 0; weaker = λ rows. throwKeepsRest 7 (rows 6) (rows 7); schedule = main 8; wanted = 0 ∷ 0 ∷ 0 ∷ 0 ∷ 0 ∷ 0 ∷ 0 ∷ 15 ∷ [] }
+    ∷ record { bundle = topEnds; address = 5; why = 0; weaker = λ rows. endsWithTop 1 (rows 5); schedule = main 5; wanted = 0 ∷ 0 ∷ 0 ∷ 0 ∷ 15 ∷ [] }
+    ∷ record { bundle = restEnds; address = 6; why = 0; weaker = λ rows. endsWithRest 1 (rows 6); schedule = main 6; wanted = 0 ∷ 0 ∷ 0 ∷ 0 ∷ 0 ∷ 15 ∷ [] }
+    ∷ record { bundle = varEnds; address = 5; why = 0; weaker = λ rows. endsWithVars (rows 5); schedule = main 5; wanted = 0 ∷ 0 ∷ 0 ∷ 0 ∷ 15 ∷ [] }
     ∷ []
+
+-- the weakened rule holds
+abbrev weakened : Typed → ((ℕ → Row) → Rule) → Bool
+weakened T weaker = ruleHolds (T .program .method 0 .vars) (weaker (T .row 0))
 
 -- the verdict, what the weakened rule says and the answers, as they are found and as they are wanted: refused at the address, let through there, and the schedule ends in a fault
 abbrev pub found : Slip → Verdict × Bool × List ℕ
-found s = (verdictOf (s .bundle), s .weakened, answers (s .bundle) (s .schedule))
+found s = (verdictOf (s .bundle), weakened (typedOf (s .bundle)) (s .weaker), answers (s .bundle) (s .schedule))
 
 abbrev pub wantedOf : Slip → Verdict × Bool × List ℕ
 wantedOf s = (ruleFails 0 (s .address) (s .why), true, s .wanted)

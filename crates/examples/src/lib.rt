@@ -1,1 +1,1 @@
-// Runs of accepted bundles, by computation: see proofs/. This crate has no code of its own.
+// Runs of accepted bundles, and what each slip would let through, by computation: see proofs/. This crate has no code of its own.
