@@ -98,7 +98,7 @@ isReference x = eqb (kindOf x) 3
 abbrev pub isNullable : Entry → Bool
 isNullable x = eqb (kindOf x) 4
 
--- Int, Top or a reference: what a variable and a stack entry in use must be
+-- Int, Top or a reference, null or not: what a variable and a stack entry in use must be
 abbrev pub isType : Entry → Bool
 isType x = leb 1 (kindOf x) && leb (kindOf x) 4
 

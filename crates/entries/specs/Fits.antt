@@ -38,7 +38,7 @@ wantEntered y = record { kind = takes y; dip = dipOf y - 1; end = endOf y + 1 }
 abbrev pub wantExited : Entry → Want
 wantExited y = record { kind = takes y; dip = dipOf y + 1; end = endOf y - 1 }
 
--- load: to each as Top or as its own class, d ≥ the sum of both dips and e ≥ the sum of both ends
+-- load: to each as Top or as its own class, null or not, d ≥ the sum of both dips and e ≥ the sum of both ends
 abbrev pub wantBoth : Entry → Entry → Want
 wantBoth y z = record { kind = λ x. takes y x && takes z x; dip = dipOf y + dipOf z; end = endOf y + endOf z - noEnd }
 

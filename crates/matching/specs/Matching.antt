@@ -41,7 +41,7 @@ wants y = record { variable = λ i. want (y .variable i); depth = y .depth; stac
 abbrev pub wantsAt : ℕ → Want → Row → Wants
 wantsAt v w y = record { variable = λ i. cond (eqb i v) w (want (y .variable i)); depth = y .depth; stack = λ j. want (y .stack j) }
 
--- load v: a non-reference fits both; a reference is compared with both places, summed, once at v, and of the new top nothing more is wanted
+-- load v: Int, Top and what may be null fit both; a reference is compared with both places, summed, once at v, and of the new top nothing more is wanted
 unfoldable pub wantsLoaded : ℕ → Row → Row → Wants
 wantsLoaded v x y =
     record {

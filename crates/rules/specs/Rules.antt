@@ -26,7 +26,7 @@ popRule x y = rule (leb 1 (x .depth) && mayGo (x .stack 0)) (edge (popped 1 x) (
 unfoldable pub push0Rule : Row → Row → Rule
 push0Rule x y = rule true (edge (pushed Int x) (wants y) ∷ [])
 
--- load v: a non-reference fits both the next variable and the new top, a reference is split over them; rest fits
+-- load v: Int, Top and what may be null fit both the next variable and the new top, a reference is split over them; rest fits
 unfoldable pub loadRule : ℕ → Row → Row → Rule
 loadRule v x y = rule true (edge (pushed (x .variable v) x) (wantsLoaded v x y) ∷ [])
 
@@ -38,7 +38,7 @@ storeRule v x y = rule (leb 1 (x .depth) && mayGo (x .variable v)) (edge (popped
 unfoldable pub ifRule : Row → Row → Row → Rule
 ifRule x y z = rule (leb 1 (x .depth) && isInt (x .stack 0)) (edge (popped 1 x) (wants y) ∷ edge (popped 1 x) (wants z) ∷ [])
 
--- monitorexit v: a reference (d,e); next is its class or Top, weight (d',e'); d ≥ d'+1 and e ≥ e'-1. Rest fits
+-- monitorexit v: a reference (d,e); next is its class, null or not, or Top, weight (d',e'); d ≥ d'+1 and e ≥ e'-1. Rest fits
 unfoldable pub exitRule : ℕ → Row → Row → Rule
 exitRule v x y = rule (isReference (x .variable v)) (edge x (wantsAt v (wantExited (y .variable v)) y) ∷ [])
 
@@ -73,13 +73,13 @@ nullThrown exception h e x z = cond (isNullable e) (thrown h (made exception) x 
 unfoldable pub unnulled : ℕ → Row → Row
 unnulled v x = cond (isNullable (x .variable v)) (stored v (made (classOf (x .variable v))) x) x
 
--- monitorenter v: a reference (d,e), null or not; next is its class or Top, weight (d',e'); d ≥ d'-1 and e ≥ e'+1. Rest fits
+-- monitorenter v: a reference (d,e), or one that may be null, which counts as (0,0); next is its class, null or not, or Top, weight (d',e'); d ≥ d'-1 and e ≥ e'+1. Rest fits
 unfoldable pub enterRule : ℕ → ℕ → ℕ → ℕ → Row → Row → Row → Rule
 enterRule vars exception v h x y z =
     rule ((isReference (x .variable v) || isNullable (x .variable v)) && nullGoes vars exception h (x .variable v) x)
     (edge (unnulled v x) (wantsAt v (wantEntered (y .variable v)) y) ∷ nullThrown exception h (x .variable v) x z)
 
--- the owner of a field of class c: a reference of c, null or not, that may go
+-- the owner of a field of class c: a reference of c, null or not, that may go (document 02, Q-8)
 unfoldable pub ownerGoes : ℕ → Entry → Bool
 ownerGoes c e = mayBeOf c e && mayGo e
 
