@@ -1,5 +1,6 @@
 // Two rows of one record held against each other, each given by where it begins: the comparisons along an edge, in their order; and may go.
 ghost use mathlib.Core.Path.{_≡_};
+ghost use mathlib.Core.Bool.{true};
 ghost use Prim.Native.Nat.{_+_, _-_, _≤_};
 ghost use Rattle.entries.specs.Entries.{Int, Ref, noEnd, fieldEntry};
 ghost use Rattle.entries.specs.Fits.{compare, want, wantEntered, wantExited};
@@ -37,16 +38,21 @@ fn word_short(n: u8, w: u32, v: u32) -> u8
     entries::compare(n, w, v)
 }
 
-// The shortcut is written out here: with a single caller the comparison would be compiled into every turn of the loops.
 fn var_short(n: u8, k: Class, r: &[u8], p: u32, q: u32, i: u8) -> u8
     ensures { λ o. ⌜ o ≡ varShort (rowFrom n k (now (r .entry)) p) (rowFrom n k (now (r .entry)) q) i ⌝ }
 {
-    let w = rows::variable_word(n, k, r, p, i);
-    let v = rows::variable_word(n, k, r, q, i);
-    if w == v {
-        return 0;
-    }
-    entries::compare(n, w, v)
+    entries::compare(
+        n,
+        rows::variable_word(n, k, r, p, i),
+        rows::variable_word(n, k, r, q, i),
+    )
+}
+
+// Most variables stay as they are: equal bytes fit, and the loops take only others apart.
+fn var_kept(n: u8, k: Class, r: &[u8], p: u32, q: u32, i: u8) -> bool
+    ensures { λ o. ⌜ (o ≡ true → 0 ≡ varShort (rowFrom n k (now (r .entry)) p) (rowFrom n k (now (r .entry)) q) i) ⌝ }
+{
+    rows::variable_word(n, k, r, p, i) == rows::variable_word(n, k, r, q, i)
 }
 
 fn vars_pass(n: u8, k: Class, r: &[u8], p: u32, q: u32) -> u8
@@ -54,9 +60,11 @@ fn vars_pass(n: u8, k: Class, r: &[u8], p: u32, q: u32) -> u8
 {
     let vars = k.vars;
     for i in 0..vars {
-        let w = var_short(n, k, r, p, q, i);
-        if w != 0 {
-            return w;
+        if !var_kept(n, k, r, p, q, i) {
+            let w = var_short(n, k, r, p, q, i);
+            if w != 0 {
+                return w;
+            }
         }
     }
     0
@@ -77,9 +85,11 @@ fn others_pass(n: u8, k: Class, r: &[u8], v: u8, w: u8, p: u32, q: u32) -> u8
 {
     let vars = k.vars;
     for i in 0..vars {
-        let s = other_short(n, k, r, v, w, p, q, i);
-        if s != 0 {
-            return s;
+        if (i == v) | !var_kept(n, k, r, p, q, i) {
+            let s = other_short(n, k, r, v, w, p, q, i);
+            if s != 0 {
+                return s;
+            }
         }
     }
     0

@@ -2,9 +2,10 @@ use Rattle.matching.specs.Passes.{varShort, varsPass}
 use Rattle.matching.specs.Matching.{firstShort}
 use Rattle.rows.specs.Rows.{rowFrom}
 use Rattle.ground.proofs.Chain.{scan-zero, scan-next, scan-left, scan-done}
-use borrow.Author.Tests.{ne-eqb, eq-eqb}
+use borrow.Author.Tests.{ne-eqb, eq-eqb, not-false}
 use mathlib.Core.Bool.{not}
 use mathlib.Core.Path.{_≡_, refl, ap}
+use mathlib.Core.Logic.{⊎-elim}
 use Prim.Native.Nat.{_≤_, _-_}
 use borrow.Author.Needs.{needs}
 use Rattle.matching.proofs.vars_pass.Statement.{statement}
@@ -19,12 +20,15 @@ abbrev μ-loop : tie.MeasureT-loop
 loop-holds : tie.Need-loop-holds Inv-loop μ-loop
 loop-holds c = search (needs, scan-zero)
 
+var-kept-requires : tie.Need-var-kept-requires Inv-loop μ-loop
+var-kept-requires c κs = search needs
+
 var-short-requires : tie.Need-var-short-requires Inv-loop μ-loop
 var-short-requires c κs = search needs
 
 returns : tie.Need-returns Inv-loop μ-loop
 unfolding varsPass
-returns c = scan-left _ _ refl _ _ _ (c .before .before .loop-test .taken) (c .before .before .before .loop .inv .1) (c .before .var-short .ensures) (ap not (ne-eqb _ _ (c .if1 .taken)))
+returns c = scan-left _ _ refl _ _ _ (c .before .before .before .before .loop-test .taken) (c .before .before .before .before .before .loop .inv .1) (c .before .var-short .ensures) (ap not (ne-eqb _ _ (c .if2 .taken)))
 
 add-i : tie.Need-add-i Inv-loop μ-loop
 add-i c = search needs
@@ -33,7 +37,14 @@ loop-less : tie.Need-loop-less Inv-loop μ-loop
 loop-less c = search needs
 
 loop-again : tie.Need-loop-again Inv-loop μ-loop
-loop-again c = (search needs, scan-next _ _ refl _ _ (c .before .before .before .loop .inv .1) (c .before .var-short .ensures) (ap not (eq-eqb _ _ (c .if1 .left))))
+loop-again c =
+    let there = c .before .before .before .loop .inv .1 in (
+      search needs,
+      ⊎-elim
+          (λ w. scan-next _ _ refl _ _ there (w .1 .ensures) (ap not (eq-eqb _ _ (w .2 .left))))
+          (λ w. scan-next _ _ refl _ _ there (c .before .var-kept .ensures (not-false _ (w .left))) refl)
+          (c .if1 .came),
+    )
 
 returns-2 : tie.Need-returns-2 Inv-loop μ-loop
 unfolding varsPass
@@ -46,6 +57,7 @@ vars-pass-spec =
     Inv-loop
     μ-loop
     loop-holds
+    var-kept-requires
     var-short-requires
     returns
     add-i
