@@ -58,16 +58,20 @@ made c = Ref c 0 noEnd
 unfoldable pub failureGoes : ℕ → ℕ → ℕ → Row → Bool
 failureGoes vars exception h x = stackGoes x && uncaughtGoes vars h (made exception) x
 
+-- .. with a handler, that is what its row is held against
+abbrev pub failureThrown : ℕ → ℕ → Row → Row → List Edge
+failureThrown exception h x z = thrown h (made exception) x z
+
 -- new c: in row l+1 the class with (0,0) fits the new top; rest fits; and it may fail
 unfoldable pub newRule : ℕ → ℕ → ℕ → ℕ → Row → Row → Row → Rule
-newRule vars exception c h x y z = rule (failureGoes vars exception h x) (edge (pushed (made c) x) (wants y) ∷ thrown h (made exception) x z)
+newRule vars exception c h x y z = rule (failureGoes vars exception h x) (edge (pushed (made c) x) (wants y) ∷ failureThrown exception h x z)
 
 -- what may be null throws when it is, as a failed new does and under the same rule (document 02, Q-8)
 unfoldable pub nullGoes : ℕ → ℕ → ℕ → Entry → Row → Bool
 nullGoes vars exception h e x = cond (isNullable e) (failureGoes vars exception h x) true
 
 unfoldable pub nullThrown : ℕ → ℕ → Entry → Row → Row → List Edge
-nullThrown exception h e x z = cond (isNullable e) (thrown h (made exception) x z) []
+nullThrown exception h e x z = cond (isNullable e) (failureThrown exception h x z) []
 
 -- a lock that may be null, and wasn't, counts as its class with (0,0)
 unfoldable pub unnulled : ℕ → Row → Row
