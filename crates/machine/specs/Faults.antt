@@ -30,6 +30,10 @@ room limit t = ltb (t .depth) limit
 abbrev pub isObject : List ℕ → ℕ → Slot → Bool
 isObject classes c x = isRef x && eqb (at classes (objectOf x)) c
 
+-- null, or an object of class c (document 02, Q-8): what the owner of a field is, and what a field that refers holds
+unfoldable pub mayBeObject : List ℕ → ℕ → Slot → Bool
+mayBeObject classes c x = isNull x || isObject classes c x
+
 -- the object that variable v refers to
 abbrev pub lockOf : Thread → Var → ℕ
 lockOf t v = objectOf (varOf t (v .0))
@@ -99,26 +103,22 @@ argumentsOk classes t args descriptor c = allBelow args (argumentAt classes t de
 abbrev pub startFault : List ℕ → Thread → ℕ → (ℕ → ℕ) → ℕ → ℕ
 startFault classes t args descriptor c = test (has (args + 1) t) 11 (test (argumentsOk classes t args descriptor c) 13 0)
 
--- an owner of a field of class c: null, or an object of c
-unfoldable pub isOwner : List ℕ → ℕ → Slot → Bool
-isOwner classes c x = isNull x || isObject classes c x
-
 -- a value of a field by its descriptor
 unfoldable pub isFieldValue : List ℕ → ℕ → Slot → Bool
-isFieldValue classes d x = cond (eqb d 255) (isInt x) (isOwner classes d x)
+isFieldValue classes d x = cond (eqb d 255) (isInt x) (mayBeObject classes d x)
 
 -- getfield takes the owner (11), null or an object of the class (13); null throws
 abbrev pub getFault : State → ℕ → Thread → ℕ → ℕ → Addr → ℕ
 getFault s i t c limit h =
     test (has 1 t) 11
-    (test (isOwner (s .classes) c (topOf t)) 13
+    (test (mayBeObject (s .classes) c (topOf t)) 13
     (nullFault (s .counts) i limit h (topOf t) 0))
 
 -- putfield takes the value and the owner below it (11), the one by the field's descriptor, the other null or an object of the class (13); null throws
 abbrev pub putFault : State → ℕ → Thread → ℕ → ℕ → ℕ → Addr → ℕ
 putFault s i t c d limit h =
     test (has 2 t) 11
-    (test (isFieldValue (s .classes) d (topOf t) && isOwner (s .classes) c (fromTop t 1)) 13
+    (test (isFieldValue (s .classes) d (topOf t) && mayBeObject (s .classes) c (fromTop t 1)) 13
     (nullFault (s .counts) i limit h (fromTop t 1) 0))
 
 -- of thread i, which is t and stands in the method m; what is no instruction is 17

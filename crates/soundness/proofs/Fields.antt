@@ -24,10 +24,10 @@ use Rattle.threads.specs.declared.Thread.{Thread}
 use Rattle.threads.specs.Threads.{fromTop, topOf, withAt, topped, popped}
 use Rattle.state.specs.declared.State.{State}
 use Rattle.state.specs.State.{threadAt, countOf, classOf, fieldOf, withField}
-use Rattle.machine.specs.Faults.{throwFault, isOwner, getFault, putFault}
+use Rattle.machine.specs.Faults.{throwFault, mayBeObject, getFault, putFault}
 use Rattle.machine.specs.Moves.{wentOn, failMove, getMove, putMove}
 use Rattle.soundness.proofs.Held.{AllFit, held}
-use Rattle.soundness.proofs.Kind.{Matches, nullable-value, not-null, ref-value, field-kind, owner-is, field-value-is}
+use Rattle.soundness.proofs.Kind.{Matches, nullable-value, not-null, ref-value, field-kind, may-be-object-is, field-value-is}
 use Rattle.soundness.proofs.Weights.{goes-end}
 use Rattle.soundness.proofs.FieldPlaces.{field-pair}
 use Rattle.soundness.proofs.Accepted.{Accepted}
@@ -93,8 +93,8 @@ module _ (P : Typed) (A : Accepted P) (s : State) (inv : Inv P s) (i : ℕ) (li 
     unfolding ownerGoes
     owner-end = goes-end (here .stack j) (and-snd (mayBeOf c (here .stack j)) (mayGo (here .stack j)) o)
 
-    owner-ok : isOwner (s .classes) c (fromTop T j) ≡ true
-    owner-ok = owner-is (s .objects) (s .classes) c (here .stack j) (fromTop T j) owner-may (kind j l)
+    owner-ok : mayBeObject (s .classes) c (fromTop T j) ≡ true
+    owner-ok = may-be-object-is (s .objects) (s .classes) c (here .stack j) (fromTop T j) owner-may (kind j l)
 
     -- where it isn't null, it is an object of class c
     owned : isNull (fromTop T j) ≡ false → (objectOf (fromTop T j) < s .objects) × (cls (objectOf (fromTop T j)) ≡ c)
