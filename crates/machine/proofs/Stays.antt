@@ -11,6 +11,7 @@ use borrow.Author.Tests.{ltb-true, leb-true, leb-false, eqb-true, eqb-false, lt-
 use Rattle.ground.specs.Bounded.{setBelow}
 use Rattle.ground.proofs.Bools.{or-right, or-false-snd, never}
 use Rattle.ground.proofs.Bounded.{all-elim}
+use Rattle.ground.proofs.Chain.{tested}
 use Rattle.ground.proofs.Writes.{set-below, set-above}
 use Rattle.instructions.specs.declared.Addr.{Addr}
 use Rattle.instructions.specs.declared.Var.{Var}
@@ -32,7 +33,7 @@ use Rattle.machine.specs.Faults.{lockOf, topFault, intFault, pushFault, 
 use Rattle.machine.specs.Waits.{enterWait, waitOf}
 use Rattle.machine.specs.Moves.{wentTo, wentOn, incMove, storeMove, ifMove, counted, enterMove, exitMove, endMove, caught, throwMove, failMove, firstFields, makeMove, newMove, getMove, putMove, startMove, moveOf}
 use Rattle.machine.specs.Machine.{stepOf}
-use Rattle.machine.proofs.Refusals.{tested, either, methodHere, instructionHere, Moving, step-by}
+use Rattle.machine.proofs.Refusals.{either, methodHere, instructionHere, Moving, step-by}
 use Rattle.machine.proofs.Moved.{refers-inc, placed-more, a-ref, owner, Moved, unmoved, entry-refers, moved-topped, moved-pushed, moved-popped, moved-stored, moved-placed}
 use Rattle.machine.proofs.Changes.{grown, first-refers, thread-belongs, count-belongs, field-belongs, object-belongs}
 
