@@ -46,9 +46,13 @@ fieldsOf b c = classAt b c .fields
 unfoldable pub width : Class → ℕ
 width k = 4 * k .vars + 1 + 4 * k .limit
 
--- n argument descriptors; f field descriptors; k instructions of four bytes; k rows
+-- how many descriptors a record begins with: n of arguments, f of fields
+abbrev pub descriptorCount : Class → ℕ
+descriptorCount k = k .args + k .fields
+
+-- the descriptors; k instructions of four bytes; k rows
 unfoldable pub size : Class → ℕ
-size k = k .args + k .fields + 4 * k .code + k .code * width k
+size k = descriptorCount k + 4 * k .code + k .code * width k
 
 -- the record does not pass length - 8
 unfoldable pub recordFits : List ℕ → Class → Bool
@@ -64,7 +68,7 @@ partPlace b k = refuse (recordFits b k) 0 (k .offset)
 
 -- where the instruction at address l stands in a record
 unfoldable pub instructionPlace : Class → ℕ → ℕ
-instructionPlace k l = k .args + k .fields + 4 * (l - 1)
+instructionPlace k l = descriptorCount k + 4 * (l - 1)
 
 -- the instruction at place p of a record, as it stands
 unfoldable pub codeFrom : List ℕ → ℕ → Code

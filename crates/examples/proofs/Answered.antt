@@ -6,12 +6,12 @@ use Rattle.threads.specs.Threads.{topped, pushed, popped, stored, ended, starte
 use Rattle.state.specs.State.{fieldsWith, withObject, othersFree, holdsNothing, lowestFree}
 use Rattle.belongs.specs.Belongs.{placesRefer, placedOk, liveOk, threadOk, threadsOk, firstOk, objectsOk, fieldsRefer, fieldsOk, countOk, threadCountsOk, countsOk, soleHolder, soleHolders, stateOk}
 use Rattle.machine.specs.Answers.{unlessDrawn}
-use Rattle.machine.specs.Faults.{isArgument, argumentsOk, isOwner, isFieldValue}
+use Rattle.machine.specs.Faults.{isArgument, argumentsOk, mayBeObject, isFieldValue}
 use Rattle.machine.specs.Machine.{freshOf, runOf, stepOf}
 use Rattle.machine.specs.Runs.{Step}
 use Rattle.cases.proofs.Judgement.{judgement}
 use Rattle.examples.specs.Runs.{answersFrom, answers}
 
 unfoldable pub answered : List ℕ → List Step → List ℕ
-unfolding judgement answersFrom firstBelow countBelow setBelow fillFrom topped pushed popped stored ended started fieldsWith withObject othersFree holdsNothing lowestFree placesRefer placedOk liveOk threadOk threadsOk firstOk objectsOk fieldsRefer fieldsOk countOk threadCountsOk countsOk soleHolder soleHolders stateOk unlessDrawn isArgument argumentsOk isOwner isFieldValue freshOf runOf stepOf
+unfolding judgement answersFrom firstBelow countBelow setBelow fillFrom topped pushed popped stored ended started fieldsWith withObject othersFree holdsNothing lowestFree placesRefer placedOk liveOk threadOk threadsOk firstOk objectsOk fieldsRefer fieldsOk countOk threadCountsOk countsOk soleHolder soleHolders stateOk unlessDrawn isArgument argumentsOk mayBeObject isFieldValue freshOf runOf stepOf
 answered b xs = answers b xs

@@ -10,7 +10,7 @@ use Rattle.entries.specs.Fits.{mayGo, takes, Want, wantEntered}
 use Rattle.rows.specs.Rows.{Row}
 use Rattle.matching.specs.Matching.{popped, pushed, stored, emptied, Wants, wants, wantsAt, Edge, edge, varsGo, stackGoes}
 use Rattle.rules.specs.Rule.{Rule, rule}
-use Rattle.rules.specs.Rules.{made, thrown, unnulled, ownerGoes, objectGoes}
+use Rattle.rules.specs.Rules.{made, failureThrown, unnulled, ownerGoes, objectGoes}
 use Rattle.examples.specs.Bundles.{pop, push0, load, store, enter, exit, new, start, athrow, returns, getfield, putfield, top, int, reference, free, owing, nullable, line, source, bundleOf}
 use Rattle.examples.specs.Runs.{main}
 use Rattle.examples.specs.Slips.{Slip, found, wantedOf}
@@ -68,7 +68,7 @@ startNull args descriptor c x y =
 -- ---- .. the throw of null, which is under all of a failed new's rule
 -- the stack below the owner need not go
 abbrev getKeepsStack : ℕ → ℕ → ℕ → Row → Row → Row → Rule
-getKeepsStack c d h x y z = rule (leb 1 (x .depth) && ownerGoes c (x .stack 0)) (edge (pushed (fieldEntry d) (popped 1 x)) (wants y) ∷ thrown h (made 0) x z)
+getKeepsStack c d h x y z = rule (leb 1 (x .depth) && ownerGoes c (x .stack 0)) (edge (pushed (fieldEntry d) (popped 1 x)) (wants y) ∷ failureThrown 0 h x z)
 
 -- monitorenter v of what may be null, with other edges for the throw
 abbrev enterNull : ℕ → Row → Row → List Edge → Rule

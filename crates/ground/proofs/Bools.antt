@@ -21,6 +21,10 @@ and-both a b p q = rw (p, q)
 pub or-right : (a b : Bool) → (a || b) ≡ true → a ≡ false → b ≡ true
 or-right a b e f = rw f at e
 
+pub or-left : (a b : Bool) → (a || b) ≡ true → b ≡ false → a ≡ true
+or-left true b e f = refl
+or-left false b e f = sym f ∙ e
+
 pub or-false-fst : (a b : Bool) → (a || b) ≡ false → a ≡ false
 or-false-fst true b e = e
 or-false-fst false b e = refl

@@ -5,6 +5,7 @@ use mathlib.Core.Bool.{Bool, true, false, cond, not}
 use Prim.Native.Nat.{ℕ, zero, suc, _+_, _<_, _≤_}
 use native.Mathlib.Nat.{le-of-suc-le-suc, not-suc-le-zero, eq-or-lt-of-le, le-antisymm}
 use native.Mathlib.Numerals.{add-one}
+use native.Mathlib.Omega.{arith}
 use borrow.Author.Tests.{not-true, not-false}
 use Rattle.ground.specs.Chain.{refuse, orThen, scan}
 use Rattle.ground.proofs.Bools.{never}
@@ -27,6 +28,12 @@ module _ {A : Type 0} where
   pub went-on : (v rest : A) {ok : Bool} → ok ≡ true → refuse ok v rest ≡ rest
   unfolding refuse
   went-on v rest e = rw e
+
+-- a refusal by a number that isn't 0, where 0 came of it
+pub tested : (ok : Bool) (n rest : ℕ) → refuse ok (suc n) rest ≡ 0 → (ok ≡ true) × (rest ≡ 0)
+unfolding refuse
+tested true n rest e = (refl, e)
+tested false n rest e = absurd (omega arith)
 
 module _ {A : Type 0} (bad : A → Bool) where
   pub then-stop : (u w : A) {v : A} → v ≡ u → bad v ≡ true → v ≡ orThen bad u w

@@ -10,7 +10,7 @@ use Rattle.ground.proofs.Bools.{and-fst, and-snd, never}
 use Rattle.instructions.specs.declared.Code.{Code}
 use Rattle.instructions.specs.declared.Instruction.{Instruction}
 use Rattle.instructions.specs.declared.Instruction.the-variants.{Inc, Pop, Push0, Load, Store, If, Enter, Exit, New, Start, Throw, Return, Get, Put, Nothing}
-use Rattle.instructions.specs.Table.{Field, none, variable, class, field, target, handler, unlisted, Line, table, noLine, find, lineOf, decoded, fieldOk, tableOk, lastOk, instructionOk}
+use Rattle.instructions.specs.Table.{Content, none, variable, class, field, target, handler, unlisted, Line, table, noLine, find, lineOf, decoded, contentOk, tableOk, lastOk, instructionOk}
 
 -- an opcode is none of a list's, as the last arm of a match on all of them has it
 unfoldable pub NoneOf : Type 0 → List Line → ℕ → Type 0
@@ -75,24 +75,24 @@ found P u (more {x} {xs} p ps) n = go (eqb n (x .opcode)) (found P u ps n)
 
 -- ---- in a bundle of so many classes, a method of so many variables and addresses
 module _ (classes : ℕ) (fields : ℕ → ℕ) (vars code : ℕ) where
-  FieldFits : Field → ℕ → Type 0
-  FieldFits none x = x ≡ 0
-  FieldFits variable x = x < vars
-  FieldFits class x = x < classes
-  FieldFits field x = (x / 4 < classes) × (x % 4 < fields (x / 4))
-  FieldFits target x = (1 ≤ x) × (x ≤ code)
-  FieldFits handler x = x ≤ code
-  FieldFits unlisted x = ⊥
+  ContentFits : Content → ℕ → Type 0
+  ContentFits none x = x ≡ 0
+  ContentFits variable x = x < vars
+  ContentFits class x = x < classes
+  ContentFits field x = (x / 4 < classes) × (x % 4 < fields (x / 4))
+  ContentFits target x = (1 ≤ x) × (x ≤ code)
+  ContentFits handler x = x ≤ code
+  ContentFits unlisted x = ⊥
 
-  field-fits : (f : Field) (x : ℕ) → fieldOk classes fields vars code f x ≡ true → FieldFits f x
-  unfolding FieldFits
-  field-fits none x e = eqb-true x 0 e
-  field-fits variable x e = ltb-true x vars e
-  field-fits class x e = ltb-true x classes e
-  field-fits field x e = (ltb-true (x / 4) classes (search and-fst), ltb-true (x % 4) (fields (x / 4)) (search and-snd))
-  field-fits target x e = (leb-true 1 x (search and-fst), leb-true x code (search and-snd))
-  field-fits handler x e = leb-true x code e
-  field-fits unlisted x e = never e refl
+  content-fits : (y : Content) (x : ℕ) → contentOk classes fields vars code y x ≡ true → ContentFits y x
+  unfolding ContentFits
+  content-fits none x e = eqb-true x 0 e
+  content-fits variable x e = ltb-true x vars e
+  content-fits class x e = ltb-true x classes e
+  content-fits field x e = (ltb-true (x / 4) classes (search and-fst), ltb-true (x % 4) (fields (x / 4)) (search and-snd))
+  content-fits target x e = (leb-true 1 x (search and-fst), leb-true x code (search and-snd))
+  content-fits handler x e = leb-true x code e
+  content-fits unlisted x e = never e refl
 
   -- what an instruction that the table admits at address l keeps to; one that is no athrow and no return has a next address
   abbrev pub InstructionFits : ℕ → Instruction → Type 0
@@ -114,12 +114,12 @@ module _ (classes : ℕ) (fields : ℕ → ℕ) (vars code : ℕ) where
 
   -- whatever a line admits keeps to that
   Admits : ℕ → Line → Type 0
-  Admits l y = (x a : ℕ) → FieldFits (y .operand) x → FieldFits (y .address) a → (y .ends ≡ false → l < code)
+  Admits l y = (x a : ℕ) → ContentFits (y .operand) x → ContentFits (y .address) a → (y .ends ≡ false → l < code)
       → InstructionFits l (y .instruction x a)
 
   -- line by line
   table-admits : (l : ℕ) → Each (Admits l) table
-  unfolding table FieldFits Admits
+  unfolding table ContentFits Admits
   table-admits l =
       (λ x a p q n. n refl)
       ⨾ (λ x a p q n. n refl)
@@ -146,10 +146,10 @@ module _ (classes : ℕ) (fields : ℕ → ℕ) (vars code : ℕ) where
       not-last false h = refl
 
   pub admitted : (l : ℕ) (x : Code) → l ≤ code → instructionOk classes fields vars code l x ≡ true → InstructionFits l (decoded x)
-  unfolding instructionOk tableOk lineOf FieldFits Admits
+  unfolding instructionOk tableOk lineOf ContentFits Admits
   admitted l x k e =
       let y = lineOf (x .opcode) in
       found (Admits l) (λ o a p q n. p) (table-admits l) (x .opcode) (x .operand) (x .address)
-      (field-fits (y .operand) (x .operand) (search (and-fst, and-snd)))
-      (field-fits (y .address) (x .address) (search (and-fst, and-snd)))
+      (content-fits (y .operand) (x .operand) (search (and-fst, and-snd)))
+      (content-fits (y .address) (x .address) (search (and-fst, and-snd)))
       (goes-on l x k (search and-snd))

@@ -15,31 +15,31 @@ addr a = record { 0 = a }
 abbrev pub var : ℕ → Var
 var v = record { 0 = v }
 
--- what an operand or an address field holds (`none` is 0); `unlisted` of an opcode that is not in the table
-pub data Field : Type 0 where
-  none : Field
-  variable : Field
-  class : Field
-  field : Field
-  target : Field
-  handler : Field
-  unlisted : Field
+-- what a part of an instruction, its operand or its address, holds (`none` is 0); `unlisted` of an opcode that is not in the table
+pub data Content : Type 0 where
+  none : Content
+  variable : Content
+  class : Content
+  field : Content
+  target : Content
+  handler : Content
+  unlisted : Content
 
 -- a line of the table: its opcode, the instruction of an operand x and an address a, what these two hold, and whether address k may hold it
 pub record Line : Type 0 where
   pub opcode : ℕ
   pub instruction : ℕ → ℕ → Instruction
-  pub operand : Field
-  pub address : Field
+  pub operand : Content
+  pub address : Content
   pub ends : Bool
 
-abbrev pub goesOn : ℕ → (ℕ → ℕ → Instruction) → Field → Field → Line
+abbrev pub goesOn : ℕ → (ℕ → ℕ → Instruction) → Content → Content → Line
 goesOn opcode instruction operand address = record { opcode = opcode; instruction = instruction; operand = operand; address = address; ends = false }
 
-abbrev pub mayEnd : ℕ → (ℕ → ℕ → Instruction) → Field → Field → Line
+abbrev pub mayEnd : ℕ → (ℕ → ℕ → Instruction) → Content → Content → Line
 mayEnd opcode instruction operand address = record { opcode = opcode; instruction = instruction; operand = operand; address = address; ends = true }
 
--- No., instruction, operand, address field; 13, 14 and the handler of 7 are document 02's, Q-8
+-- No., instruction, operand, address; 13, 14 and the handler of 7 are document 02's, Q-8
 unfoldable pub table : List Line
 table =
     goesOn 1 (λ x a. Inc) none none
@@ -69,31 +69,31 @@ find (x ∷ xs) opcode = cond (eqb opcode (x .opcode)) x (find xs opcode)
 unfoldable pub lineOf : ℕ → Line
 lineOf opcode = find table opcode
 
--- the instruction that four bytes are, by their opcode; whether their fields keep to the table is `instructionOk`
+-- the instruction that four bytes are, by their opcode; whether their operand and address keep to the table is `instructionOk`
 abbrev pub decoded : Code → Instruction
 decoded x = lineOf (x .opcode) .instruction (x .operand) (x .address)
 
--- what a field may hold, in a bundle of so many classes, each with so many fields, a method of so many variables and addresses
-abbrev pub fieldOk : ℕ → (ℕ → ℕ) → ℕ → ℕ → Field → ℕ → Bool
+-- what a part may hold, in a bundle of so many classes, each with so many fields, a method of so many variables and addresses
+abbrev pub contentOk : ℕ → (ℕ → ℕ) → ℕ → ℕ → Content → ℕ → Bool
 -- 0
-fieldOk classes fields vars code none x = eqb x 0
+contentOk classes fields vars code none x = eqb x 0
 -- a variable is below V
-fieldOk classes fields vars code variable x = ltb x vars
+contentOk classes fields vars code variable x = ltb x vars
 -- a class is one of the bundle's
-fieldOk classes fields vars code class x = ltb x classes
+contentOk classes fields vars code class x = ltb x classes
 -- class × 4 + field
-fieldOk classes fields vars code field x = ltb (x / 4) classes && ltb (x % 4) (fields (x / 4))
+contentOk classes fields vars code field x = ltb (x / 4) classes && ltb (x % 4) (fields (x / 4))
 -- target 1..k
-fieldOk classes fields vars code target x = leb 1 x && leb x code
+contentOk classes fields vars code target x = leb 1 x && leb x code
 -- handler 0..k, 0 is none
-fieldOk classes fields vars code handler x = leb x code
-fieldOk classes fields vars code unlisted x = false
+contentOk classes fields vars code handler x = leb x code
+contentOk classes fields vars code unlisted x = false
 
--- the operand and the address field are as the opcode's line says
+-- the operand and the address are as the opcode's line says
 unfoldable pub tableOk : ℕ → (ℕ → ℕ) → ℕ → ℕ → Code → Bool
 tableOk classes fields vars code x =
     let y = lineOf (x .opcode) in
-    fieldOk classes fields vars code (y .operand) (x .operand) && fieldOk classes fields vars code (y .address) (x .address)
+    contentOk classes fields vars code (y .operand) (x .operand) && contentOk classes fields vars code (y .address) (x .address)
 
 -- address k holds athrow or return
 unfoldable pub lastOk : ℕ → ℕ → Code → Bool

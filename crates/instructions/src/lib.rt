@@ -35,7 +35,7 @@ pub enum Instruction {
     Nothing,
 }
 
-// By the opcode alone: a bundle whose fields are not as the table says draws 7, and is never run.
+// By the opcode alone: a bundle whose operands and addresses are not as the table says draws 7, and is never run.
 pub fn instruction_of(x: Code) -> Instruction
     ensures { λ r. ⌜ r ≡ decoded x ⌝ }
 {

@@ -10,6 +10,7 @@ use lib.Dec.{ltb, eqb}
 use borrow.Author.Tests.{ltb-true, leb-true, not-true, le-ltb}
 use Rattle.ground.proofs.Bools.{and-snd}
 use Rattle.ground.proofs.Bounded.{first-is}
+use Rattle.ground.proofs.Chain.{tested}
 use Rattle.instructions.specs.declared.Addr.{Addr}
 use Rattle.instructions.specs.declared.Var.{Var}
 use Rattle.instructions.specs.declared.Instruction.{Instruction}
@@ -30,7 +31,7 @@ use Rattle.machine.specs.Waits.{startWait, waitOf}
 use Rattle.machine.specs.Moves.{wentTo, wentOn, incMove, storeMove, counted, endMove, throwMove, enterMove, firstFields, makeMove, getMove, putMove, startMove, moveOf}
 use Rattle.machine.specs.Machine.{mainThread, stepOf, freshOf}
 use Rattle.machine.specs.Runs.{Step, after, run, reached}
-use Rattle.machine.proofs.Refusals.{tested, either, refuses, methodHere, instructionHere, Moving, step-by}
+use Rattle.machine.proofs.Refusals.{either, refuses, methodHere, instructionHere, Moving, step-by}
 use Rattle.machine.proofs.Writes.{write-or, write-in, fields-in}
 use Rattle.machine.proofs.Moved.{entry-refers, owner}
 use Rattle.machine.proofs.Changes.{grown, first-at}

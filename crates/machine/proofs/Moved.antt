@@ -16,7 +16,7 @@ use Rattle.values.specs.Values.{zeroSlot, isIntValue, isInt, isNullValue, isNul
 use Rattle.threads.specs.declared.Thread.{Thread}
 use Rattle.threads.specs.Threads.{varOf, fromTop, withAt, topped, pushed, popped, stored}
 use Rattle.belongs.proofs.Belongs.{Placed, refers-object}
-use Rattle.machine.specs.Faults.{isOwner}
+use Rattle.machine.specs.Faults.{mayBeObject}
 use Rattle.machine.proofs.Writes.{write-or, write-in}
 
 pub refers-inc : (objects : ℕ) (x : Slot) → refers objects x ≡ true → refers objects (incSlot x) ≡ true
@@ -46,9 +46,9 @@ a-ref x e f = go (x .value) e f
     go Null e f = never refl f
 
 -- an owner that isn't null is an object of the class
-pub owner : (objects : ℕ) (classes : List ℕ) (c : ℕ) (x : Slot) → refers objects x ≡ true → isOwner classes c x ≡ true → isNull x ≡ false
+pub owner : (objects : ℕ) (classes : List ℕ) (c : ℕ) (x : Slot) → refers objects x ≡ true → mayBeObject classes c x ≡ true → isNull x ≡ false
     → (objectOf x < objects) × (getD classes (objectOf x) 0 ≡ c)
-unfolding isOwner
+unfolding mayBeObject
 owner objects classes c x r e n =
     let o = or-right (isNull x) _ e n in
     (refers-object objects x r (and-fst (isRef x) _ o), eqb-true _ c (and-snd (isRef x) _ o))

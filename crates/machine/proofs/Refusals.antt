@@ -3,8 +3,7 @@ use mathlib.Core.Path.{_≡_, refl}
 use mathlib.Core.Logic.{_≢_}
 use mathlib.Core.Bool.{Bool, true, false, cond}
 use mathlib.Core.List.{List}
-use Prim.Native.Nat.{ℕ, suc, _<_}
-use native.Mathlib.Omega.{arith}
+use Prim.Native.Nat.{ℕ, _<_}
 use lib.Dec.{ltb, eqb}
 use borrow.Author.Tests.{ltb-true, eqb-true, eqb-false}
 use Rattle.ground.specs.Chain.{refuse}
@@ -16,18 +15,12 @@ use Rattle.state.specs.declared.State.{State}
 use Rattle.state.specs.State.{threadAt}
 use Rattle.belongs.proofs.Belongs.{Belongs, belongs-elim}
 use Rattle.machine.specs.declared.Stepped.{Stepped}
-use Rattle.machine.specs.Answers.{refused, unless, test, unlessDrawn}
+use Rattle.machine.specs.Answers.{refused, unless, unlessDrawn}
 use Rattle.machine.specs.Faults.{faultOf}
 use Rattle.machine.specs.Waits.{waitOf}
 use Rattle.machine.specs.Moves.{moveOf}
 use Rattle.machine.specs.Machine.{runOf, stepOf}
 use Rattle.machine.proofs.Ready.{formed}
-
--- a test that drew nothing
-pub tested : (ok : Bool) (n rest : ℕ) → test ok (suc n) rest ≡ 0 → (ok ≡ true) × (rest ≡ 0)
-unfolding refuse
-tested true n rest e = (refl, e)
-tested false n rest e = absurd (omega arith)
 
 -- the move need be the same only where nothing was drawn
 pub drawn-same : (s : State) {n m : ℕ} {x y : Stepped} → n ≡ m → (n ≡ 0 → x ≡ y) → unlessDrawn n s x ≡ unlessDrawn m s y

@@ -11,6 +11,7 @@ use borrow.Author.Tests.{ltb-true, leb-true, leb-false, eqb-true, eqb-false, lt-
 use Rattle.ground.specs.Bounded.{setBelow}
 use Rattle.ground.proofs.Bools.{or-right, or-false-snd, never}
 use Rattle.ground.proofs.Bounded.{all-elim}
+use Rattle.ground.proofs.Chain.{tested}
 use Rattle.ground.proofs.Writes.{set-below, set-above}
 use Rattle.instructions.specs.declared.Addr.{Addr}
 use Rattle.instructions.specs.declared.Var.{Var}
@@ -30,9 +31,9 @@ use Rattle.belongs.proofs.Belongs.{Placed, Belongs, refers-object, belongs-elim
 use Rattle.machine.specs.declared.Stepped.{Stepped}
 use Rattle.machine.specs.Faults.{lockOf, topFault, intFault, pushFault, enterFault, exitFault, endFault, throwFault, athrowFault, newFails, newFault, startFault, getFault, putFault, faultOf}
 use Rattle.machine.specs.Waits.{enterWait, waitOf}
-use Rattle.machine.specs.Moves.{wentTo, wentOn, incMove, storeMove, ifMove, counted, enterMove, exitMove, endMove, caught, throwMove, firstFields, makeMove, newMove, getMove, putMove, startMove, moveOf}
+use Rattle.machine.specs.Moves.{wentTo, wentOn, incMove, storeMove, ifMove, counted, enterMove, exitMove, endMove, caught, throwMove, failMove, firstFields, makeMove, newMove, getMove, putMove, startMove, moveOf}
 use Rattle.machine.specs.Machine.{stepOf}
-use Rattle.machine.proofs.Refusals.{tested, either, methodHere, instructionHere, Moving, step-by}
+use Rattle.machine.proofs.Refusals.{either, methodHere, instructionHere, Moving, step-by}
 use Rattle.machine.proofs.Moved.{refers-inc, placed-more, a-ref, owner, Moved, unmoved, entry-refers, moved-topped, moved-pushed, moved-popped, moved-stored, moved-placed}
 use Rattle.machine.proofs.Changes.{grown, first-refers, thread-belongs, count-belongs, field-belongs, object-belongs}
 
@@ -121,7 +122,7 @@ module _ (P : Program) (wf : WellFormed P) (s : State) (h : Belongs P s) (i : �
       (a .0) (omega (arith, eqb-false (a .0) 0 e)) g)
 
   -- null throws object 0
-  null-stays : (vars : ℕ) (a : Addr) → a .0 ≤ method .code → throwFault (s .counts) i (method .limit) a ≡ 0 → Stays P (throwMove s i t vars a (refSlot 0))
+  null-stays : (vars : ℕ) (a : Addr) → a .0 ≤ method .code → throwFault (s .counts) i (method .limit) a ≡ 0 → Stays P (failMove s i t vars a)
   null-stays vars a g = throw-stays vars a (refSlot 0) g (lt-ltb 0 (s .objects) (omega (arith, h .some-object)))
 
   enter-stays : threadAt s i .live ≡ true → t .at .0 < method .code → (vars : ℕ) (v : Var) → v .0 < method .vars → (a : Addr) → a .0 ≤ method .code

@@ -30,6 +30,10 @@ room limit t = ltb (t .depth) limit
 abbrev pub isObject : List ℕ → ℕ → Slot → Bool
 isObject classes c x = isRef x && eqb (at classes (objectOf x)) c
 
+-- null, or an object of class c (document 02, Q-8): what the owner of a field is, and what a field that refers holds
+unfoldable pub mayBeObject : List ℕ → ℕ → Slot → Bool
+mayBeObject classes c x = isNull x || isObject classes c x
+
 -- the object that variable v refers to
 abbrev pub lockOf : Thread → Var → ℕ
 lockOf t v = objectOf (varOf t (v .0))
@@ -58,11 +62,15 @@ endFault counts i = test (holdsNothing counts i) 15 0
 abbrev pub throwFault : List ℕ → ℕ → ℕ → Addr → ℕ
 throwFault counts i limit h = cond (eqb (h .0) 0) (endFault counts i) (test (leb 1 limit) 12 0)
 
--- monitorenter wants a reference (13); null throws (document 02, Q-8); by the holder at count 2,047 it is 16
+-- null in an object's stead throws, as a failed new does (document 02, Q-8); what isn't null draws n
+abbrev pub nullFault : List ℕ → ℕ → ℕ → Addr → Slot → ℕ → ℕ
+nullFault counts i limit h x n = cond (isNull x) (throwFault counts i limit h) n
+
+-- monitorenter wants a reference (13); null throws; by the holder at count 2,047 it is 16
 abbrev pub enterFault : List ℕ → ℕ → Thread → Var → ℕ → Addr → ℕ
 enterFault counts i t v limit h =
     test (not (isInt (varOf t (v .0)))) 13
-    (cond (isNull (varOf t (v .0))) (throwFault counts i limit h)
+    (nullFault counts i limit h (varOf t (v .0))
     (test (ltb (countOf counts i (lockOf t v)) 2047) 16 0))
 
 -- athrow throws the top (11), a reference of the exception class (13; with K 0 there is no top, so 11 comes before 12)
@@ -95,27 +103,23 @@ argumentsOk classes t args descriptor c = allBelow args (argumentAt classes t de
 abbrev pub startFault : List ℕ → Thread → ℕ → (ℕ → ℕ) → ℕ → ℕ
 startFault classes t args descriptor c = test (has (args + 1) t) 11 (test (argumentsOk classes t args descriptor c) 13 0)
 
--- an owner of a field of class c: null, or an object of c
-unfoldable pub isOwner : List ℕ → ℕ → Slot → Bool
-isOwner classes c x = isNull x || isObject classes c x
-
 -- a value of a field by its descriptor
 unfoldable pub isFieldValue : List ℕ → ℕ → Slot → Bool
-isFieldValue classes d x = cond (eqb d 255) (isInt x) (isOwner classes d x)
+isFieldValue classes d x = cond (eqb d 255) (isInt x) (mayBeObject classes d x)
 
 -- getfield takes the owner (11), null or an object of the class (13); null throws
 abbrev pub getFault : State → ℕ → Thread → ℕ → ℕ → Addr → ℕ
 getFault s i t c limit h =
     test (has 1 t) 11
-    (test (isOwner (s .classes) c (topOf t)) 13
-    (cond (isNull (topOf t)) (throwFault (s .counts) i limit h) 0))
+    (test (mayBeObject (s .classes) c (topOf t)) 13
+    (nullFault (s .counts) i limit h (topOf t) 0))
 
 -- putfield takes the value and the owner below it (11), the one by the field's descriptor, the other null or an object of the class (13); null throws
 abbrev pub putFault : State → ℕ → Thread → ℕ → ℕ → ℕ → Addr → ℕ
 putFault s i t c d limit h =
     test (has 2 t) 11
-    (test (isFieldValue (s .classes) d (topOf t) && isOwner (s .classes) c (fromTop t 1)) 13
-    (cond (isNull (fromTop t 1)) (throwFault (s .counts) i limit h) 0))
+    (test (isFieldValue (s .classes) d (topOf t) && mayBeObject (s .classes) c (fromTop t 1)) 13
+    (nullFault (s .counts) i limit h (fromTop t 1) 0))
 
 -- of thread i, which is t and stands in the method m; what is no instruction is 17
 abbrev pub faultOf : Program → State → ℕ → Thread → Method → Bool → Instruction → ℕ

@@ -64,10 +64,14 @@ caught t x = pushed (popped (t .depth) t) x
 abbrev pub throwMove : State → ℕ → Thread → ℕ → Addr → Slot → Stepped
 throwMove s i t vars h x = cond (eqb (h .0) 0) (endMove s i t vars 2) (wentTo s i (caught t x) (h .0))
 
--- monitorenter adds one to the count; null throws object 0, as a failed new does (document 02, Q-8)
+-- a failed new throws object 0 (document 02, Q-6), and so does null (Q-8)
+abbrev pub failMove : State → ℕ → Thread → ℕ → Addr → Stepped
+failMove s i t vars h = throwMove s i t vars h (refSlot 0)
+
+-- monitorenter adds one to the count; null throws
 abbrev pub enterMove : State → ℕ → Thread → ℕ → Var → Addr → Stepped
 enterMove s i t vars v h =
-    cond (isNull (varOf t (v .0))) (throwMove s i t vars h (refSlot 0))
+    cond (isNull (varOf t (v .0))) (failMove s i t vars h)
     (counted s i t (lockOf t v) (countOf (s .counts) i (lockOf t v) + 1))
 
 -- field place j of a new object of the class whose method is m: null where it is a field that refers, and else integer 0
@@ -82,20 +86,20 @@ firstFields m = firstField m 0 ∷ firstField m 1 ∷ firstField m 2 ∷ firstFi
 abbrev pub makeMove : Program → State → ℕ → Thread → ℕ → Stepped
 makeMove P s i t c = wentOn (withObject s c (firstFields (P .method c))) i (t .at) (pushed t (refSlot (s .objects)))
 
--- a failed new throws object 0
+-- .. and one that fails throws
 abbrev pub newMove : Program → State → ℕ → Thread → ℕ → ℕ → Addr → Bool → Stepped
-newMove P s i t vars c h fails = cond (newFails s fails) (throwMove s i t vars h (refSlot 0)) (makeMove P s i t c)
+newMove P s i t vars c h fails = cond (newFails s fails) (failMove s i t vars h) (makeMove P s i t c)
 
 -- getfield takes the owner from the top and pushes what its field f holds; a null owner throws
 abbrev pub getMove : State → ℕ → Thread → ℕ → ℕ → Addr → Stepped
 getMove s i t vars f h =
-    cond (isNull (topOf t)) (throwMove s i t vars h (refSlot 0))
+    cond (isNull (topOf t)) (failMove s i t vars h)
     (wentOn s i (t .at) (topped t (fieldOf (s .fields) (objectOf (topOf t)) f)))
 
 -- putfield takes the value from the top, then the owner, and puts the value into its field f; a null owner throws
 abbrev pub putMove : State → ℕ → Thread → ℕ → ℕ → Addr → Stepped
 putMove s i t vars f h =
-    cond (isNull (fromTop t 1)) (throwMove s i t vars h (refSlot 0))
+    cond (isNull (fromTop t 1)) (failMove s i t vars h)
     (wentOn (withField s (objectOf (fromTop t 1)) f (topOf t)) i (t .at) (popped 2 t))
 
 -- start puts the top in variable 0 of the new thread, the next in 1, and so on, and takes the object below

@@ -3,7 +3,7 @@ ghost use mathlib.Core.Path.{_≡_};
 ghost use Prim.Native.Nat.{_<_};
 ghost use Rattle.bundle.specs.Program.{methodOf, methodAt};
 ghost use Rattle.machine.specs.Answers.{unlessDrawn};
-ghost use Rattle.machine.specs.Faults.{isOwner, isFieldValue, getFault, putFault};
+ghost use Rattle.machine.specs.Faults.{mayBeObject, isFieldValue, getFault, putFault};
 ghost use Rattle.machine.specs.Moves.{firstField, firstFields, getMove, putMove};
 use crate::Stepped;
 use crate::ends;
@@ -49,8 +49,8 @@ pub(crate) fn descriptor(b: &[u8], c: u8, f: u8) -> u8
     bundle::field_at(k, bundle::part_of(b, k), f)
 }
 
-fn is_owner(classes: &[u8], c: u8, x: Slot) -> bool
-    ensures { λ r. ⌜ r ≡ isOwner (now (classes .entry)) c x ⌝ }
+fn may_be_object(classes: &[u8], c: u8, x: Slot) -> bool
+    ensures { λ r. ⌜ r ≡ mayBeObject (now (classes .entry)) c x ⌝ }
 {
     if values::is_null(x) {
         return true;
@@ -64,7 +64,7 @@ fn is_field_value(classes: &[u8], d: u8, x: Slot) -> bool
     if d == 255 {
         return values::is_int(x);
     }
-    is_owner(classes, d, x)
+    may_be_object(classes, d, x)
 }
 
 // A null owner throws object 0, as a failed new does.
@@ -88,7 +88,7 @@ pub(crate) fn get_step(
         };
     }
     let x = threads::top(t);
-    if !is_owner(&s.classes, c, x) {
+    if !may_be_object(&s.classes, c, x) {
         return Stepped {
             answer: 13,
             state: s,
@@ -130,7 +130,7 @@ pub(crate) fn put_step(
     }
     let x = threads::top(t);
     let y = threads::from_top(t, 1);
-    if !(is_field_value(&s.classes, d, x) & is_owner(&s.classes, c, y)) {
+    if !(is_field_value(&s.classes, d, x) & may_be_object(&s.classes, c, y)) {
         return Stepped {
             answer: 13,
             state: s,

@@ -6,12 +6,12 @@ use lib.ListN.{length}
 use Rattle.ground.specs.Bytes.{at}
 use Rattle.ground.specs.Chain.{refuse}
 use Rattle.bundle.specs.declared.Class.{Class}
-use Rattle.bundle.specs.Container.{width}
+use Rattle.bundle.specs.Container.{width, descriptorCount}
 use Rattle.entries.specs.Entries.{Entry, Blank, entryOf}
 
--- n argument descriptors; f field descriptors; k instructions of four bytes; k rows: where a row begins that i rows come before
+-- the descriptors; k instructions of four bytes; k rows: where a row begins that i rows come before
 unfoldable pub startBehind : Class → ℕ → ℕ
-startBehind k i = k .args + k .fields + 4 * k .code + i * width k
+startBehind k i = descriptorCount k + 4 * k .code + i * width k
 
 -- addresses run from 1
 unfoldable pub rowStart : Class → ℕ → ℕ

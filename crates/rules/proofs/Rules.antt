@@ -13,7 +13,7 @@ use Rattle.matching.specs.Matching.{popped, pushed, stored, emptied, wants, wan
 use Rattle.matching.proofs.Scans.{then-nothing}
 use Rattle.matching.proofs.Edges.{thrown-edge}
 use Rattle.rules.specs.Rule.{rule, allMeet, met, shortAlong, unmet, ruling}
-use Rattle.rules.specs.Rules.{incRule, popRule, storeRule, ifRule, uncaughtGoes, thrown, made, failureGoes, newRule, nullGoes, nullThrown, unnulled, enterRule, ownerGoes, getRule, putRule, throwRule, startRule}
+use Rattle.rules.specs.Rules.{incRule, popRule, storeRule, ifRule, uncaughtGoes, thrown, made, failureGoes, failureThrown, newRule, nullGoes, nullThrown, unnulled, enterRule, ownerGoes, getRule, putRule, throwRule, startRule}
 use Rattle.rules.proofs.Judging.{judged, and-true, and-assoc, ruling-one, ruling-any, ruling-more, met-one, met-two, popped-depth, popped-depths, replaced-depth}
 
 pub inc-met : (x y : Row) → met (incRule x y) ≡ ((leb 1 (x .depth) && isInt (x .stack 0)) && eqb (x .depth) (y .depth))
@@ -73,15 +73,15 @@ throw-ruling vars exception h x z =
 -- ---- a failed new: its throw, of the exception class with (0,0)
 module _ (vars exception h : ℕ) (x z : Row) where
   abbrev pub failureMet : Bool
-  failureMet = failureGoes vars exception h x && allMeet (thrown h (made exception) x z)
+  failureMet = failureGoes vars exception h x && allMeet (failureThrown exception h x z)
 
   abbrev pub failureShort : ℕ
-  failureShort = shortAlong vars (thrown h (made exception) x z)
+  failureShort = shortAlong vars (failureThrown exception h x z)
 
   pub failure-met : (stackGoes x && throwMet vars h (made exception) x z) ≡ failureMet
   unfolding failureGoes
   failure-met =
-      rw (← throw-met vars h (made exception) x z) (sym (and-assoc (stackGoes x) (uncaughtGoes vars h (made exception) x) (allMeet (thrown h (made exception) x z))))
+      rw (← throw-met vars h (made exception) x z) (sym (and-assoc (stackGoes x) (uncaughtGoes vars h (made exception) x) (allMeet (failureThrown exception h x z))))
 
   pub failure-short : throwShort vars h (made exception) x z ≡ failureShort
   failure-short = sym (throw-short vars h (made exception) x z)
@@ -90,7 +90,7 @@ module _ (vars exception h : ℕ) (x z : Row) where
       → judged (failureMet && eqb (x .depth + 1) (y .depth)) (thenShort (edgeShort vars (edge (pushed (made c) x) (wants y))) failureShort)
       ≡ ruling vars (newRule vars exception c h x y z)
   unfolding newRule
-  new-ruling c y = sym (ruling-more vars (failureGoes vars exception h x) (edge (pushed (made c) x) (wants y)) (thrown h (made exception) x z))
+  new-ruling c y = sym (ruling-more vars (failureGoes vars exception h x) (edge (pushed (made c) x) (wants y)) (failureThrown exception h x z))
 
 -- ---- what may be null throws when it is
 no-null : (e : Entry) → isReference e ≡ true → isNullable e ≡ false
@@ -116,9 +116,9 @@ module _ (vars exception v h : ℕ) (x y z : Row) where
           (thenShort (edgeShort vars (edge (stored v (made (classOf (x .variable v))) x) (wantsAt v (wantEntered (y .variable v)) y))) (failureShort vars exception h x z))
           ≡ ruling vars
           (rule (t && cond t (failureGoes vars exception h x) true)
-          (edge (cond t (stored v (made (classOf (x .variable v))) x) x) (wantsAt v (wantEntered (y .variable v)) y) ∷ cond t (thrown h (made exception) x z) []))
+          (edge (cond t (stored v (made (classOf (x .variable v))) x) x) (wantsAt v (wantEntered (y .variable v)) y) ∷ cond t (failureThrown exception h x z) []))
       go true =
-          sym (ruling-more vars (failureGoes vars exception h x) (edge (stored v (made (classOf (x .variable v))) x) (wantsAt v (wantEntered (y .variable v)) y)) (thrown h (made exception) x z))
+          sym (ruling-more vars (failureGoes vars exception h x) (edge (stored v (made (classOf (x .variable v))) x) (wantsAt v (wantEntered (y .variable v)) y)) (failureThrown exception h x z))
       go false = refl
 
 module _ (vars exception c d h : ℕ) (x y z : Row) where

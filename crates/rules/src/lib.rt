@@ -11,7 +11,7 @@ ghost use Rattle.instructions.specs.Table.{decoded};
 ghost use Rattle.rows.specs.Rows.{rowFrom, rowAt};
 ghost use Rattle.matching.specs.Matching.{emptied, wants, edge, thenShort, edgeShort, varsGo};
 ghost use Rattle.rules.specs.Rule.{met, unmet, ruling, allMeet, shortAlong};
-ghost use Rattle.rules.specs.Rules.{incRule, popRule, push0Rule, loadRule, storeRule, ifRule, exitRule, thrown, made, failureGoes, newRule, nullGoes, nullThrown, enterRule, ownerGoes, getRule, putRule, throwRule, argumentGoes, objectGoes, argumentsGo, startRule, returnRule, ruleOf};
+ghost use Rattle.rules.specs.Rules.{incRule, popRule, push0Rule, loadRule, storeRule, ifRule, exitRule, failureGoes, failureThrown, newRule, nullGoes, nullThrown, enterRule, ownerGoes, getRule, putRule, throwRule, argumentGoes, objectGoes, argumentsGo, startRule, returnRule, ruleOf};
 use bundle::Class;
 use instructions::Addr;
 use instructions::Code;
@@ -238,14 +238,14 @@ fn throw_rule(n: u8, k: Class, r: &[u8], x: u8, handler: u16, p: u32, h: u32) ->
 
 // A failed new: what it asks of row p and of the handler's. It throws the exception class x with (0,0), which may go.
 fn failure_met(n: u8, k: Class, r: &[u8], x: u8, handler: u16, p: u32, h: u32) -> bool
-    ensures { λ o. ⌜ o ≡ (failureGoes (k .vars) x handler (rowFrom n k (now (r .entry)) p) && allMeet (thrown handler (made x) (rowFrom n k (now (r .entry)) p) (rowFrom n k (now (r .entry)) h))) ⌝ }
+    ensures { λ o. ⌜ o ≡ (failureGoes (k .vars) x handler (rowFrom n k (now (r .entry)) p) && allMeet (failureThrown x handler (rowFrom n k (now (r .entry)) p) (rowFrom n k (now (r .entry)) h))) ⌝ }
 {
     matching::stack_goes(n, k, r, p) & throw_met(n, k, r, handler, true, p, h)
 }
 
 // .. and its comparisons with the handler's row.
 fn failure_short(n: u8, k: Class, r: &[u8], x: u8, handler: u16, p: u32, h: u32) -> u8
-    ensures { λ o. ⌜ o ≡ shortAlong (k .vars) (thrown handler (made x) (rowFrom n k (now (r .entry)) p) (rowFrom n k (now (r .entry)) h)) ⌝ }
+    ensures { λ o. ⌜ o ≡ shortAlong (k .vars) (failureThrown x handler (rowFrom n k (now (r .entry)) p) (rowFrom n k (now (r .entry)) h)) ⌝ }
 {
     let t = entries::compare_made(n, x, rows::stack_word(n, k, r, h, 0));
     thrown_short(n, k, r, handler, t, p, h)

@@ -20,7 +20,7 @@ use Rattle.entries.specs.Fits.{mayGo}
 use Rattle.matching.specs.Matching.{emptied, wants, edge, varsGo, entryGoes, stackGoes}
 use Rattle.matching.specs.Matching as rows
 use Rattle.rules.specs.Rule.{ruleHolds}
-use Rattle.rules.specs.Rules.{uncaughtGoes, thrown, made, failureGoes, nullGoes, nullThrown, throwRule, returnRule}
+use Rattle.rules.specs.Rules.{uncaughtGoes, thrown, made, failureGoes, failureThrown, nullGoes, nullThrown, throwRule, returnRule}
 use Rattle.values.specs.declared.Slot.{Slot}
 use Rattle.values.specs.Values.{zeroSlot, refSlot, isNull}
 use Rattle.threads.specs.declared.Thread.{Thread}
@@ -29,7 +29,7 @@ use Rattle.state.specs.declared.State.{State}
 use Rattle.state.specs.State.{threadAt, countOf, classOf, isFree, holdsNothing}
 use Rattle.machine.specs.Answers.{test}
 use Rattle.machine.specs.Faults.{endFault, throwFault, athrowFault}
-use Rattle.machine.specs.Moves.{wentTo, endMove, caught, throwMove}
+use Rattle.machine.specs.Moves.{wentTo, endMove, caught, throwMove, failMove}
 use Rattle.soundness.proofs.Balance.{all-go}
 use Rattle.soundness.proofs.Kind.{Matches, null-entry, object-is}
 use Rattle.soundness.proofs.Held.{AllFit, held}
@@ -135,7 +135,7 @@ module _ (P : Typed) (A : Accepted P) (s : State) (inv : Inv P s) (i : ℕ) (li 
 
   -- a failed new throws object 0, as (0,0) of the exception class
   pub failed-fine : (h : Addr) → h .0 ≤ P .program .method (T .class) .code → failureGoes vars (P .program .exception) (h .0) here ≡ true
-      → AllFit vars (thrown (h .0) (made (P .program .exception)) here (P .row (T .class) (h .0))) → Fine P s i (throwFault (s .counts) i limit h) 0 (throwMove s i T vars h (refSlot 0))
+      → AllFit vars (failureThrown (P .program .exception) (h .0) here (P .row (T .class) (h .0))) → Fine P s i (throwFault (s .counts) i limit h) 0 (failMove s i T vars h)
   unfolding failureGoes stackGoes popped
   failed-fine h l a f =
       throw-fine h (made (P .program .exception)) (refSlot 0) l (and-snd (stackGoes here) _ a) (λ _. sg) f
@@ -152,7 +152,7 @@ module _ (P : Typed) (A : Accepted P) (s : State) (inv : Inv P s) (i : ℕ) (li 
   -- so does null: where a reference e holds it, e may be null, and the rule has the throw
   pub null-fine : (h : Addr) (e : Entry) (x : Slot) → h .0 ≤ P .program .method (T .class) .code → (isReference e || isNullable e) ≡ true → Matches (s .objects) cls e (x .value) → isNull x ≡ true
       → nullGoes vars (P .program .exception) (h .0) e here ≡ true → AllFit vars (nullThrown (P .program .exception) (h .0) e here (P .row (T .class) (h .0)))
-      → Fine P s i (throwFault (s .counts) i limit h) 0 (throwMove s i T vars h (refSlot 0))
+      → Fine P s i (throwFault (s .counts) i limit h) 0 (failMove s i T vars h)
   unfolding nullGoes nullThrown
   null-fine h e x l k m q a f =
       let n : isNullable e ≡ true = null-entry (s .objects) cls e (x .value) k m q in

@@ -24,10 +24,10 @@ use Rattle.threads.specs.declared.Thread.{Thread}
 use Rattle.threads.specs.Threads.{fromTop, topOf, withAt, topped, popped}
 use Rattle.state.specs.declared.State.{State}
 use Rattle.state.specs.State.{threadAt, countOf, classOf, fieldOf, withField}
-use Rattle.machine.specs.Faults.{throwFault, isOwner, getFault, putFault}
-use Rattle.machine.specs.Moves.{wentOn, throwMove, getMove, putMove}
+use Rattle.machine.specs.Faults.{throwFault, mayBeObject, getFault, putFault}
+use Rattle.machine.specs.Moves.{wentOn, failMove, getMove, putMove}
 use Rattle.soundness.proofs.Held.{AllFit, held}
-use Rattle.soundness.proofs.Kind.{Matches, nullable-value, not-null, ref-value, field-kind, owner-is, field-value-is}
+use Rattle.soundness.proofs.Kind.{Matches, nullable-value, not-null, ref-value, field-kind, may-be-object-is, field-value-is}
 use Rattle.soundness.proofs.Weights.{goes-end}
 use Rattle.soundness.proofs.FieldPlaces.{field-pair}
 use Rattle.soundness.proofs.Accepted.{Accepted}
@@ -93,8 +93,8 @@ module _ (P : Typed) (A : Accepted P) (s : State) (inv : Inv P s) (i : ℕ) (li 
     unfolding ownerGoes
     owner-end = goes-end (here .stack j) (and-snd (mayBeOf c (here .stack j)) (mayGo (here .stack j)) o)
 
-    owner-ok : isOwner (s .classes) c (fromTop T j) ≡ true
-    owner-ok = owner-is (s .objects) (s .classes) c (here .stack j) (fromTop T j) owner-may (kind j l)
+    owner-ok : mayBeObject (s .classes) c (fromTop T j) ≡ true
+    owner-ok = may-be-object-is (s .objects) (s .classes) c (here .stack j) (fromTop T j) owner-may (kind j l)
 
     -- where it isn't null, it is an object of class c
     owned : isNull (fromTop T j) ≡ false → (objectOf (fromTop T j) < s .objects) × (cls (objectOf (fromTop T j)) ≡ c)
@@ -105,7 +105,7 @@ module _ (P : Typed) (A : Accepted P) (s : State) (inv : Inv P s) (i : ℕ) (li 
 
     -- where it is null, object 0 is thrown
     null-throws : nullGoes vars exception (h .0) (here .stack j) here ≡ true → AllFit vars (nullThrown exception (h .0) (here .stack j) here caught) → isNull (fromTop T j) ≡ true
-        → Fine P s i (throwFault (s .counts) i limit h) 0 (throwMove s i T vars h (refSlot 0))
+        → Fine P s i (throwFault (s .counts) i limit h) 0 (failMove s i T vars h)
     null-throws g t n =
         null-fine P A s inv i li lv h (here .stack j) (fromTop T j) lh (and-fst (isReference (here .stack j) || isNullable (here .stack j)) _ owner-may) (kind j l) n g t
 

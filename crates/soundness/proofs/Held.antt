@@ -1,14 +1,12 @@
 -- What a rule that holds says: all that it asks, and that along each edge every offer fits what is wanted.
 use mathlib.Core.List.{List, [], _∷_}
 use mathlib.Core.Path.{_≡_, refl}
-use mathlib.Core.Bool.{Bool, true, false, _&&_}
+use mathlib.Core.Bool.{true, _&&_}
 use Prim.Native.Nat.{ℕ, _≤_, _<_}
-use native.Mathlib.Omega.{arith}
 use lib.Dec.{leb, eqb}
 use borrow.Author.Tests.{leb-true, eqb-true}
-use Rattle.ground.specs.Chain.{refuse}
 use Rattle.ground.proofs.Bools.{and-fst, and-snd}
-use Rattle.ground.proofs.Chain.{scan-each}
+use Rattle.ground.proofs.Chain.{scan-each, tested}
 use Rattle.entries.specs.Entries.{Entry, dipOf, endOf}
 use Rattle.entries.specs.Fits.{Want, compare}
 use Rattle.matching.specs.Matching.{Edge, meets, isShort, firstShort, variableShort, entryShort, edgeShort}
@@ -21,17 +19,12 @@ pub record Meets (x : Entry) (w : Want) : Type 0 where
   pub dip : w .dip ≤ dipOf x
   pub end : w .end ≤ endOf x
 
-refuse-zero : (ok : Bool) (n r : ℕ) → 0 < n → refuse ok n r ≡ 0 → (ok ≡ true) × (r ≡ 0)
-unfolding refuse
-refuse-zero true n r l h = (refl, h)
-refuse-zero false n r l h = absurd (omega arith)
-
 pub compared : (x : Entry) (w : Want) → compare x w ≡ 0 → Meets x w
 unfolding compare
 compared x w h =
-    let a = refuse-zero (w .kind x) 1 _ (omega arith) h in
-    let b = refuse-zero (leb (w .dip) (dipOf x)) 2 _ (omega arith) (a .1) in
-    let c = refuse-zero (leb (w .end) (endOf x)) 3 _ (omega arith) (b .1) in
+    let a = tested (w .kind x) _ _ h in
+    let b = tested (leb (w .dip) (dipOf x)) _ _ (a .1) in
+    let c = tested (leb (w .end) (endOf x)) _ _ (b .1) in
     record { kind = a .0; dip = leb-true _ _ (b .0); end = leb-true _ _ (c .0) }
 
 -- ---- an edge

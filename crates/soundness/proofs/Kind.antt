@@ -15,7 +15,7 @@ use Rattle.values.specs.declared.Value.{Value}
 use Rattle.values.specs.declared.Value.the-variants.{Int as num, Ref as obj, Null as null}
 use Rattle.values.specs.Values.{isIntValue, isNullValue, isNull, isRefValue, objectOfValue, refersValue, incValue}
 use Rattle.values.specs.Values as values
-use Rattle.machine.specs.Faults.{isObject, isOwner, isFieldValue}
+use Rattle.machine.specs.Faults.{isObject, mayBeObject, isFieldValue}
 
 -- `Blank` is a place that is not in use: any value may be left there
 abbrev pub Matches : ℕ → (ℕ → ℕ) → Entry → Value → Type 0
@@ -225,9 +225,9 @@ object-is n classes c e x h m =
     let r = ref-value n (λ o. getD classes o 0) (Ref c 0 noEnd) (x .value) refl (of-value n (λ o. getD classes o 0) c e (x .value) h m) in
     rw (r .0, eq-eqb _ _ (r .2))
 
-pub owner-is : (n : ℕ) (classes : List ℕ) (c : ℕ) (e : Entry) (x : Slot) → mayBeOf c e ≡ true → Matches n (λ o. getD classes o 0) e (x .value) → isOwner classes c x ≡ true
-unfolding isOwner
-owner-is n classes c e x h m = go (isNull x) refl
+pub may-be-object-is : (n : ℕ) (classes : List ℕ) (c : ℕ) (e : Entry) (x : Slot) → mayBeOf c e ≡ true → Matches n (λ o. getD classes o 0) e (x .value) → mayBeObject classes c x ≡ true
+unfolding mayBeObject
+may-be-object-is n classes c e x h m = go (isNull x) refl
   where
     go : (b : Bool) → isNull x ≡ b → (b || isObject classes c x) ≡ true
     go true q = refl
@@ -237,6 +237,6 @@ pub field-value-is : (n : ℕ) (classes : List ℕ) (d : ℕ) (e : Entry) (x : S
 unfolding matchesField isFieldValue
 field-value-is n classes d e x h m = go (eqb d 255) h
   where
-    go : (b : Bool) → cond b (isInt e) (mayBeOf d e) ≡ true → cond b (values.isInt x) (isOwner classes d x) ≡ true
+    go : (b : Bool) → cond b (isInt e) (mayBeOf d e) ≡ true → cond b (values.isInt x) (mayBeObject classes d x) ≡ true
     go true h = int-value n (λ o. getD classes o 0) e (x .value) h m
-    go false h = owner-is n classes d e x h m
+    go false h = may-be-object-is n classes d e x h m

@@ -7,9 +7,9 @@ use native.Mathlib.Omega.{arith}
 use lib.Dec.{ltb, eqb}
 use lib.ListN.{set}
 use borrow.Author.Tests.{lt-ltb, eqb-true, eq-eqb, ne-eqb}
-use Rattle.ground.proofs.Bools.{and-fst, and-snd, or-right, never}
+use Rattle.ground.proofs.Bools.{and-fst, and-snd, or-left, or-right}
 use Rattle.ground.proofs.Bounded.{all-elim}
-use Rattle.ground.proofs.Chain.{went-on}
+use Rattle.ground.proofs.Chain.{went-on, tested}
 use Rattle.instructions.specs.declared.Addr.{Addr}
 use Rattle.instructions.specs.declared.Var.{Var}
 use Rattle.bundle.specs.Program.{Address}
@@ -31,7 +31,6 @@ use Rattle.machine.specs.Answers.{test}
 use Rattle.machine.specs.Faults.{lockOf, enterFault, exitFault}
 use Rattle.machine.specs.Waits.{enterWait}
 use Rattle.machine.specs.Moves.{counted, enterMove, exitMove}
-use Rattle.machine.proofs.Refusals.{tested}
 use Rattle.soundness.proofs.Held.{Meets, Fits, held}
 use Rattle.soundness.proofs.Kind.{Matches, nullable-value, not-null, no-int}
 use Rattle.soundness.proofs.Weights.{nullable-goes}
@@ -41,10 +40,6 @@ use Rattle.soundness.proofs.Invariant.{Inv, bounded}
 use Rattle.soundness.proofs.Moves.{Others, others, live-standing, thread-moves, count-other, count-same, count-moves, Good, went, Fine, branches}
 use Rattle.soundness.proofs.Goes.{arrives, v16, d16, at-here}
 use Rattle.soundness.proofs.Ends.{null-fine}
-
-or-left : (a b : Bool) → (a || b) ≡ true → b ≡ false → a ≡ true
-or-left true b h q = refl
-or-left false b h q = never h q
 
 module _ (P : Typed) (A : Accepted P) (s : State) (inv : Inv P s) (i : ℕ) (li : i < 8) (lv : threadAt s i .live ≡ true) (v : Var) (l : v .0 < P .program .method (threadAt s i .class) .vars) where
   abbrev T : Thread

@@ -11,7 +11,7 @@ use borrow.Author.Tests.{not-true, leb-true, le-leb, ltb-true}
 use Rattle.ground.specs.Bounded.{setBelow}
 use Rattle.ground.proofs.Bools.{and-fst, and-snd}
 use Rattle.ground.proofs.Bounded.{all-elim, all-intro, first-is}
-use Rattle.ground.proofs.Chain.{went-on}
+use Rattle.ground.proofs.Chain.{went-on, tested}
 use Rattle.ground.proofs.Writes.{set-length}
 use Rattle.bundle.specs.Program.{Address}
 use Rattle.entries.specs.Entries.{Entry, isInt, isOf, matches}
@@ -32,7 +32,6 @@ use Rattle.state.specs.State.{threadAt, countOf, classOf, withThread, notLive, 
 use Rattle.machine.specs.Faults.{isObject, isArgument, argumentAt, argumentsOk, startFault}
 use Rattle.machine.specs.Waits.{startWait}
 use Rattle.machine.specs.Moves.{startedBy, startMove}
-use Rattle.machine.proofs.Refusals.{tested}
 use Rattle.soundness.proofs.Kind.{Matches, int-value, argument-kind, object-is}
 use Rattle.soundness.proofs.Held.{Fits, held}
 use Rattle.soundness.proofs.Weights.{goes-end}

@@ -8,7 +8,7 @@ use Rattle.ground.specs.Bytes.{at, be16}
 use Rattle.ground.specs.Bounded.{allBelow}
 use Rattle.instructions.specs.Table.{instructionOk}
 use Rattle.bundle.specs.declared.Class.{Class}
-use Rattle.bundle.specs.Container.{directoryAt, classes, exception, fieldsOf, codeAt}
+use Rattle.bundle.specs.Container.{directoryAt, classes, exception, fieldsOf, descriptorCount, codeAt}
 
 -- 1: length below 8 or above 65,535
 unfoldable pub lengthOk : List ℕ → Bool
@@ -55,7 +55,7 @@ descriptorOk n r i = eqb (at r i) 255 || ltb (at r i) n
 
 -- 6: a descriptor, of an argument or a field, neither FF nor a class
 unfoldable pub descriptorsOk : ℕ → Class → List ℕ → Bool
-descriptorsOk n k r = allBelow (k .args + k .fields) (descriptorOk n r)
+descriptorsOk n k r = allBelow (descriptorCount k) (descriptorOk n r)
 
 -- 7: an instruction breaks the table
 unfoldable pub addressOk : List ℕ → Class → List ℕ → ℕ → Bool

@@ -21,12 +21,12 @@ returns c = rw (lt-leb _ _ (c .if1 .taken))
 top-requires : tie.Need-top-requires
 top-requires c κs = search needs
 
-is-owner-requires : tie.Need-is-owner-requires
-is-owner-requires c κs = search needs
+may-be-object-requires : tie.Need-may-be-object-requires
+may-be-object-requires c κs = search needs
 
 returns-2 : tie.Need-returns-2
 unfolding unlessDrawn refuse
-returns-2 c = rw (le-leb _ _ (c .before .before .before .before .before .before .if1 .left), ← c .before .before .before .before .before .top .ensures, failed (c .before .is-owner .ensures) (c .if2 .taken))
+returns-2 c = rw (le-leb _ _ (c .before .before .before .before .before .before .if1 .left), ← c .before .before .before .before .before .top .ensures, failed (c .before .may-be-object .ensures) (c .if2 .taken))
 
 is-null-requires : tie.Need-is-null-requires
 is-null-requires c κs = search needs
@@ -42,7 +42,7 @@ settle-requires c κs = search needs
 
 returns-3 : tie.Need-returns-3
 unfolding refuse
-returns-3 c = rw (le-leb _ _ (c .before .before .before .before .before .before .before .before .before .before .before .before .before .before .if1 .left), ← c .before .before .before .before .before .before .before .before .before .before .before .before .before .top .ensures, passed (c .before .before .before .before .before .before .before .before .before .is-owner .ensures) (c .before .before .before .before .before .before .before .before .if2 .left), ← c .before .before .before .before .before .before .before .is-null .ensures, c .before .before .before .before .before .before .if3 .taken, ← c .before .before .ref-slot .ensures) (c .settle .ensures ∙ drawn-same _ (c .before .throw-turn .ensures .0) (λ q. c .before .throw-turn .ensures .1 q (c .before .before .before .before .before .before .before .before .before .before .before .before .before .before .before .before .args .t1)))
+returns-3 c = rw (le-leb _ _ (c .before .before .before .before .before .before .before .before .before .before .before .before .before .before .if1 .left), ← c .before .before .before .before .before .before .before .before .before .before .before .before .before .top .ensures, passed (c .before .before .before .before .before .before .before .before .before .may-be-object .ensures) (c .before .before .before .before .before .before .before .before .if2 .left), ← c .before .before .before .before .before .before .before .is-null .ensures, c .before .before .before .before .before .before .if3 .taken, ← c .before .before .ref-slot .ensures) (c .settle .ensures ∙ drawn-same _ (c .before .throw-turn .ensures .0) (λ q. c .before .throw-turn .ensures .1 q (c .before .before .before .before .before .before .before .before .before .before .before .before .before .before .before .before .args .t1)))
 
 object-of-requires : tie.Need-object-of-requires
 object-of-requires c κs = search needs
@@ -78,7 +78,7 @@ returns-4 c =
     let l : length (s .fields) ≡ 128 = search (needs, length-mapped, c .before .before .before .before .before .before .before .before .before .before .before .before .before .before .before .good .0 .1 .1 .1 .1) in
     let e : c .before .before .if4 .y ≡ fieldOf (s .fields) (c .before .before .before .before .object-of .result) (c .before .before .before .before .before .before .before .before .before .before .before .before .before .before .before .args .f) =
     ⊎-elim (λ w. w .2) (λ w. w .1 ∙ c .before .before .before .zero-slot .ensures ∙ sym (List·getD-eq-default (s .fields) zeroSlot (omega (arith, w .0 .left)))) (c .before .before .if4 .came) in
-    rw (c .went-on .ensures, c .before .set-top .ensures, e, c .before .before .before .before .object-of .ensures, le-leb _ _ (c .before .before .before .before .before .before .before .before .before .before .before .before .before .if1 .left), ← c .before .before .before .before .before .before .before .before .before .before .before .before .top .ensures, passed (c .before .before .before .before .before .before .before .before .is-owner .ensures) (c .before .before .before .before .before .before .before .if2 .left), ← c .before .before .before .before .before .before .is-null .ensures, c .before .before .before .before .before .if3 .left)
+    rw (c .went-on .ensures, c .before .set-top .ensures, e, c .before .before .before .before .object-of .ensures, le-leb _ _ (c .before .before .before .before .before .before .before .before .before .before .before .before .before .if1 .left), ← c .before .before .before .before .before .before .before .before .before .before .before .before .top .ensures, passed (c .before .before .before .before .before .before .before .before .may-be-object .ensures) (c .before .before .before .before .before .before .before .if2 .left), ← c .before .before .before .before .before .before .is-null .ensures, c .before .before .before .before .before .if3 .left)
 
 pub get-step-spec : {M : Type 1} → statement M
 get-step-spec =
@@ -86,7 +86,7 @@ get-step-spec =
     (tie.spec
     returns
     top-requires
-    is-owner-requires
+    may-be-object-requires
     returns-2
     is-null-requires
     ref-slot-requires

@@ -11,12 +11,12 @@ returns : tie.Need-returns
 unfolding isFieldValue
 returns c = rw (c .is-int .ensures, eq-eqb _ _ (c .before .if1 .taken))
 
-is-owner-requires : tie.Need-is-owner-requires
-is-owner-requires c κs = search needs
+may-be-object-requires : tie.Need-may-be-object-requires
+may-be-object-requires c κs = search needs
 
 returns-2 : tie.Need-returns-2
 unfolding isFieldValue
-returns-2 c = rw (c .is-owner .ensures, ne-eqb _ _ (c .before .if1 .left))
+returns-2 c = rw (c .may-be-object .ensures, ne-eqb _ _ (c .before .if1 .left))
 
 pub is-field-value-spec : {M : Type 1} → statement M
-is-field-value-spec = tie.close (tie.spec is-int-requires returns is-owner-requires returns-2)
+is-field-value-spec = tie.close (tie.spec is-int-requires returns may-be-object-requires returns-2)

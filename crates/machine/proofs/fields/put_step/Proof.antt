@@ -22,14 +22,14 @@ from-top-requires c κs = search needs
 is-field-value-requires : tie.Need-is-field-value-requires
 is-field-value-requires c κs = search needs
 
-is-owner-requires : tie.Need-is-owner-requires
-is-owner-requires c κs = search needs
+may-be-object-requires : tie.Need-may-be-object-requires
+may-be-object-requires c κs = search needs
 
 returns-2 : tie.Need-returns-2
 unfolding unlessDrawn refuse
 returns-2 c =
-    let e : (c .before .before .before .before .before .is-field-value .result && c .before .is-owner .result) ≡ false = failed refl (c .if2 .taken) in
-    rw (le-leb _ _ (c .before .before .before .before .before .before .before .before .before .before .before .if1 .left), ← c .before .before .before .before .before .before .before .before .before .before .top .ensures, ← c .before .before .before .before .before .before .before .before .before .from-top .ensures, ← c .before .before .before .before .before .is-field-value .ensures, ← c .before .is-owner .ensures, e)
+    let e : (c .before .before .before .before .before .is-field-value .result && c .before .may-be-object .result) ≡ false = failed refl (c .if2 .taken) in
+    rw (le-leb _ _ (c .before .before .before .before .before .before .before .before .before .before .before .if1 .left), ← c .before .before .before .before .before .before .before .before .before .before .top .ensures, ← c .before .before .before .before .before .before .before .before .before .from-top .ensures, ← c .before .before .before .before .before .is-field-value .ensures, ← c .before .may-be-object .ensures, e)
 
 is-null-requires : tie.Need-is-null-requires
 is-null-requires c κs = search needs
@@ -46,8 +46,8 @@ settle-requires c κs = search needs
 returns-3 : tie.Need-returns-3
 unfolding refuse
 returns-3 c =
-    let e : (c .before .before .before .before .before .before .before .before .before .before .before .before .before .is-field-value .result && c .before .before .before .before .before .before .before .before .before .is-owner .result) ≡ true = passed refl (c .before .before .before .before .before .before .before .before .if2 .left) in
-    rw (le-leb _ _ (c .before .before .before .before .before .before .before .before .before .before .before .before .before .before .before .before .before .before .before .if1 .left), ← c .before .before .before .before .before .before .before .before .before .before .before .before .before .before .before .before .before .before .top .ensures, ← c .before .before .before .before .before .before .before .before .before .before .before .before .before .before .before .before .before .from-top .ensures, ← c .before .before .before .before .before .before .before .before .before .before .before .before .before .is-field-value .ensures, ← c .before .before .before .before .before .before .before .before .before .is-owner .ensures, e, ← c .before .before .before .before .before .before .before .is-null .ensures, c .before .before .before .before .before .before .if3 .taken, ← c .before .before .ref-slot .ensures) (c .settle .ensures ∙ drawn-same _ (c .before .throw-turn .ensures .0) (λ q. c .before .throw-turn .ensures .1 q (c .before .before .before .before .before .before .before .before .before .before .before .before .before .before .before .before .before .before .before .before .before .args .t1)))
+    let e : (c .before .before .before .before .before .before .before .before .before .before .before .before .before .is-field-value .result && c .before .before .before .before .before .before .before .before .before .may-be-object .result) ≡ true = passed refl (c .before .before .before .before .before .before .before .before .if2 .left) in
+    rw (le-leb _ _ (c .before .before .before .before .before .before .before .before .before .before .before .before .before .before .before .before .before .before .before .if1 .left), ← c .before .before .before .before .before .before .before .before .before .before .before .before .before .before .before .before .before .before .top .ensures, ← c .before .before .before .before .before .before .before .before .before .before .before .before .before .before .before .before .before .from-top .ensures, ← c .before .before .before .before .before .before .before .before .before .before .before .before .before .is-field-value .ensures, ← c .before .before .before .before .before .before .before .before .before .may-be-object .ensures, e, ← c .before .before .before .before .before .before .before .is-null .ensures, c .before .before .before .before .before .before .if3 .taken, ← c .before .before .ref-slot .ensures) (c .settle .ensures ∙ drawn-same _ (c .before .throw-turn .ensures .0) (λ q. c .before .throw-turn .ensures .1 q (c .before .before .before .before .before .before .before .before .before .before .before .before .before .before .before .before .before .before .before .before .before .args .t1)))
 
 object-of-requires : tie.Need-object-of-requires
 object-of-requires c κs = search needs
@@ -64,8 +64,8 @@ went-on-requires c κs = c .before .before .before .before .before .before .befo
 returns-4 : tie.Need-returns-4
 unfolding unlessDrawn refuse
 returns-4 c =
-    let e : (c .before .before .before .before .before .before .before .before .before .before .before .is-field-value .result && c .before .before .before .before .before .before .before .is-owner .result) ≡ true = passed refl (c .before .before .before .before .before .before .if2 .left) in
-    rw (c .went-on .ensures, c .before .pop .ensures, c .before .before .put-field .ensures, c .before .before .before .object-of .ensures, le-leb _ _ (c .before .before .before .before .before .before .before .before .before .before .before .before .before .before .before .before .before .if1 .left), ← c .before .before .before .before .before .before .before .before .before .before .before .before .before .before .before .before .top .ensures, ← c .before .before .before .before .before .before .before .before .before .before .before .before .before .before .before .from-top .ensures, ← c .before .before .before .before .before .before .before .before .before .before .before .is-field-value .ensures, ← c .before .before .before .before .before .before .before .is-owner .ensures, e, ← c .before .before .before .before .before .is-null .ensures, c .before .before .before .before .if3 .left)
+    let e : (c .before .before .before .before .before .before .before .before .before .before .before .is-field-value .result && c .before .before .before .before .before .before .before .may-be-object .result) ≡ true = passed refl (c .before .before .before .before .before .before .if2 .left) in
+    rw (c .went-on .ensures, c .before .pop .ensures, c .before .before .put-field .ensures, c .before .before .before .object-of .ensures, le-leb _ _ (c .before .before .before .before .before .before .before .before .before .before .before .before .before .before .before .before .before .if1 .left), ← c .before .before .before .before .before .before .before .before .before .before .before .before .before .before .before .before .top .ensures, ← c .before .before .before .before .before .before .before .before .before .before .before .before .before .before .before .from-top .ensures, ← c .before .before .before .before .before .before .before .before .before .before .before .is-field-value .ensures, ← c .before .before .before .before .before .before .before .may-be-object .ensures, e, ← c .before .before .before .before .before .is-null .ensures, c .before .before .before .before .if3 .left)
 
 pub put-step-spec : {M : Type 1} → statement M
 put-step-spec =
@@ -75,7 +75,7 @@ put-step-spec =
     top-requires
     from-top-requires
     is-field-value-requires
-    is-owner-requires
+    may-be-object-requires
     returns-2
     is-null-requires
     ref-slot-requires
