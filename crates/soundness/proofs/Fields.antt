@@ -19,7 +19,7 @@ use Rattle.matching.specs.Matching as rows
 use Rattle.rules.specs.Rule.{ruleHolds}
 use Rattle.rules.specs.Rules.{nullGoes, nullThrown, ownerGoes, getRule, putRule}
 use Rattle.values.specs.declared.Slot.{Slot}
-use Rattle.values.specs.Values.{refSlot, isNull, objectOf}
+use Rattle.values.specs.Values.{isNull, objectOf}
 use Rattle.threads.specs.declared.Thread.{Thread}
 use Rattle.threads.specs.Threads.{fromTop, topOf, withAt, topped, popped}
 use Rattle.state.specs.declared.State.{State}
