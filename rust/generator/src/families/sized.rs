@@ -25,12 +25,14 @@ pub fn typical(bytes: usize, wanted: usize) -> Vec<Vec<u8>> {
 }
 
 /// Accepted bundles of eight classes near the limit of 65,535 bytes: main
-/// methods that know no class but 0, which has no arguments in any bundle.
+/// methods that know no class but 0, which has no arguments in any bundle and
+/// no fields in these.
 pub fn full(wanted: usize) -> Vec<Vec<u8>> {
     let mains: Vec<Method> = (0..)
         .map(|seed| typed::draft(&mut Rng::new(seed), None).methods)
         .filter(|methods| methods.len() == 1)
         .flatten()
+        .filter(|method| method.fields.is_empty())
         .filter(|method| (7_000..8_180).contains(&method.record().len()))
         .take(8 + wanted)
         .collect();

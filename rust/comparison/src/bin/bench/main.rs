@@ -73,6 +73,7 @@ fn verify_lines(rounds: usize) {
 /// The bundles as they are, accepted, and refused in three places.
 fn kinds(rounds: usize, name: &str, accepted: &[Vec<u8>], late: Vec<Vec<u8>>) {
     let changed = |change: fn(&[u8]) -> Vec<u8>| accepted.iter().map(|b| change(b)).collect();
+    assert!(accepted.iter().all(|b| verify(b).number == 0));
     let early: Vec<Vec<u8>> = changed(sized::refused_early);
     let first: Vec<Vec<u8>> = changed(sized::refused_at_first_instruction);
     let named = [
