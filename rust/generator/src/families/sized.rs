@@ -62,8 +62,11 @@ pub fn refused_late(bundle: &[u8]) -> Option<Vec<u8>> {
 
 /// The same bundle with an unknown opcode at class 0, address 1 (7).
 pub fn refused_at_first_instruction(bundle: &[u8]) -> Vec<u8> {
+    let count = bundle[bundle.len() - TRAILER + 2];
+    let directory = bundle.len() - TRAILER - DIRECTORY_ENTRY * usize::from(count);
+    let fields = bundle[directory + 5];
     let mut out = bundle.to_vec();
-    out[0] = 0;
+    out[usize::from(fields)] = 0;
     out
 }
 

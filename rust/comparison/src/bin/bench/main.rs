@@ -10,7 +10,7 @@ use comparison::proved;
 use generator::builder::{case_a, lay_out};
 use generator::families::sized;
 use reference::entries::Entry;
-use reference::verify::verify;
+use reference::verify::{verify, Verdict};
 use std::hint::black_box;
 use std::time::{Duration, Instant};
 
@@ -76,6 +76,7 @@ fn kinds(rounds: usize, name: &str, accepted: &[Vec<u8>], late: Vec<Vec<u8>>) {
     assert!(accepted.iter().all(|b| verify(b).number == 0));
     let early: Vec<Vec<u8>> = changed(sized::refused_early);
     let first: Vec<Vec<u8>> = changed(sized::refused_at_first_instruction);
+    assert!(first.iter().all(|b| verify(b) == Verdict::new(7, 0, 1)));
     let named = [
         ("accepted", accepted),
         ("refused 2", &early),
