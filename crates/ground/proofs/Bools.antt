@@ -15,8 +15,20 @@ pub and-false : (a : Bool) → (a && false) ≡ false
 and-false true = refl
 and-false false = refl
 
+pub and-true : (a : Bool) → (a && true) ≡ a
+and-true true = refl
+and-true false = refl
+
 pub and-both : (a b : Bool) → a ≡ true → b ≡ true → (a && b) ≡ true
 and-both a b p q = rw (p, q)
+
+pub or-true : (a : Bool) → (a || true) ≡ true
+or-true true = refl
+or-true false = refl
+
+pub or-false : (a : Bool) → (a || false) ≡ a
+or-false true = refl
+or-false false = refl
 
 pub or-right : (a b : Bool) → (a || b) ≡ true → a ≡ false → b ≡ true
 or-right a b e f = rw f at e

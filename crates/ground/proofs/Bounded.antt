@@ -1,7 +1,7 @@
 -- `allBelow`, `firstBelow` and `countBelow`: what they say, and the laws in the shape that a counting loop asks them in.
-use mathlib.Core.Path.{_≡_, refl, sym, ap, subst}
+use mathlib.Core.Path.{_≡_, refl, sym, ap, ap₂, subst}
 use mathlib.Core.Logic.{⊎-elim}
-use mathlib.Core.Bool.{Bool, true, false, cond}
+use mathlib.Core.Bool.{Bool, true, false, cond, _&&_}
 use Prim.Native.Nat.{ℕ, zero, suc, _+_, _<_, _≤_}
 use native.Mathlib.Nat.{le-of-suc-le-suc, not-suc-le-zero, eq-or-lt-of-le, le-antisymm}
 use native.Mathlib.Numerals.{add-one}
@@ -102,6 +102,18 @@ first-least (suc n) p j l = go (p 0) refl j l (first-least n (λ i. p (suc i)))
     go false q (suc j) k ih = ih j (omega arith)
 
 -- ---- countBelow
+-- tests that agree on the numbers below n
+module _ (p q : ℕ → Bool) where
+  pub all-same : (n : ℕ) → ((i : ℕ) → i < n → p i ≡ q i) → allBelow n p ≡ allBelow n q
+  unfolding allBelow
+  all-same zero h = refl
+  all-same (suc n) h = ap₂ (λ (x y : Bool). x && y) (all-same n (λ i l. h i (omega arith))) (h n (omega arith))
+
+  pub count-same : (n : ℕ) → ((i : ℕ) → i < n → p i ≡ q i) → countBelow n p ≡ countBelow n q
+  unfolding countBelow
+  count-same zero h = refl
+  count-same (suc n) h = ap₂ (λ (x : ℕ) (t : Bool). x + cond t 1 0) (count-same n (λ i l. h i (omega arith))) (h n (omega arith))
+
 module _ (p : ℕ → Bool) where
   pub count-zero : countBelow 0 p ≡ 0
   unfolding countBelow
@@ -157,3 +169,13 @@ module _ (p : ℕ → Bool) where
       go : (t : Bool) → p n ≡ t → countBelow n p ≤ 1 → countBelow n p + cond t 1 0 ≤ 1
       go true e ih = rw (count-none n (λ i l. off e i l (p i) refl)) (omega arith)
       go false e ih = omega arith
+
+  -- more numbers, no fewer of them
+  pub count-up : (i n : ℕ) → i ≤ n → countBelow i p ≤ countBelow n p
+  unfolding countBelow
+  count-up i zero l = let q : i ≡ 0 = omega arith in rw q (omega arith)
+  count-up i (suc n) l = go (ℕ-discrete i (suc n)) (count-up i n)
+    where
+      go : Dec (i ≡ suc n) → (i ≤ n → countBelow i p ≤ countBelow n p) → countBelow i p ≤ countBelow n p + cond (p n) 1 0
+      go (yes q) ih = rw q (omega arith)
+      go (no q) ih = omega (arith, ih (omega arith))
