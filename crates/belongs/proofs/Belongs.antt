@@ -1,6 +1,6 @@
 -- What `stateOk` says, fact by fact, in both directions: theorems of the machine speak of the record `Belongs`.
 use mathlib.Core.Path.{_≡_, refl, ap}
-use mathlib.Core.Bool.{Bool, true, false, _&&_, _||_, not}
+use mathlib.Core.Bool.{Bool, true, false, cond, _&&_, _||_, not}
 use mathlib.Core.List.{List}
 use Prim.Native.Nat.{ℕ, _<_, _≤_}
 use lib.ListN.{getD}
@@ -12,6 +12,7 @@ use Rattle.ground.specs.Bounded.{countBelow}
 use Rattle.ground.proofs.Bools.{and-fst, and-snd, or-right, never}
 use Rattle.ground.proofs.Bounded.{all-elim, all-intro, count-two, count-sole}
 use Rattle.bundle.specs.Program.{Program}
+use Rattle.held.specs.Word.{bit}
 use Rattle.values.specs.Values.{zeroSlot, isRefValue, isRef, objectOfValue, objectOf, refersValue, refers}
 use Rattle.values.specs.declared.Slot.{Slot}
 use Rattle.values.specs.declared.Value.{Value}
@@ -19,8 +20,8 @@ use Rattle.values.specs.declared.Value.the-variants.{Int, Ref, Null}
 use Rattle.threads.specs.declared.Thread.{Thread}
 use Rattle.threads.specs.Threads.{varOf}
 use Rattle.state.specs.declared.State.{State}
-use Rattle.state.specs.State.{threadAt, countOf, classOf, fieldOf}
-use Rattle.belongs.specs.Belongs.{placesRefer, placedOk, liveOk, threadOk, threadsOk, objectOk, firstOk, objectsOk, fieldsRefer, fieldsOk, countOk, threadCountsOk, countsOk, holdsAt, soleHolder, soleHolders, stateOk}
+use Rattle.state.specs.State.{threadAt, countOf, wordOf, classOf, fieldOf}
+use Rattle.belongs.specs.Belongs.{placesRefer, placedOk, liveOk, threadOk, threadsOk, objectOk, firstOk, objectsOk, fieldsRefer, fieldsOk, countOk, threadCountsOk, countsOk, bitAgrees, wordAgrees, wordsAgree, Worded, holdsAt, soleHolder, soleHolders, stateOk}
 
 -- a live thread stands in a method of the bundle, and each place in use holds an integer or null, or refers to an object
 pub record Placed (P : Program) (objects : ℕ) (t : Thread) : Type 0 where
@@ -46,6 +47,7 @@ pub record Belongs (P : Program) (s : State) : Type 0 where
   pub field-refers : (o f : ℕ) → o < s .objects → f < P .method (classOf s o) .fields → refers (s .objects) (fieldOf (s .fields) o f) ≡ true
   pub counted : (i o : ℕ) → i < 8 → o < 32 → Counted (s .objects) (threadAt s i .live) o (countOf (s .counts) i o)
   pub one-holder : (i j o : ℕ) → i < 8 → j < 8 → o < 32 → 0 < countOf (s .counts) i o → 0 < countOf (s .counts) j o → i ≡ j
+  pub worded : Worded s
 
 -- what `refers` says of a reference
 pub refers-object : (objects : ℕ) (x : Slot) → refers objects x ≡ true → isRef x ≡ true → objectOf x < objects
@@ -106,6 +108,21 @@ counted-intro objects live o n k = go (ℕ-discrete n 0)
         let l : 0 < n = omega arith in
         rw (ne-eqb n 0 q, le-leb _ _ (k .count-2047), lt-ltb _ _ (k .on-object l), k .by-live l)
 
+-- ---- one bit
+pub agrees-elim : (w o n : ℕ) → bitAgrees w o n ≡ true → bit w o ≡ ltb 0 n
+agrees-elim w o n = go (ltb 0 n)
+  where
+    go : (t : Bool) → cond t (bit w o) (not (bit w o)) ≡ true → bit w o ≡ t
+    go true e = e
+    go false e = not-true _ e
+
+pub agrees-intro : (w o n : ℕ) → bit w o ≡ ltb 0 n → bitAgrees w o n ≡ true
+agrees-intro w o n = go (ltb 0 n)
+  where
+    go : (t : Bool) → bit w o ≡ t → cond t (bit w o) (not (bit w o)) ≡ true
+    go true e = e
+    go false e = rw e
+
 -- ---- who holds an object
 holds : (counts : List ℕ) (o i : ℕ) → 0 < countOf counts i o → holdsAt counts o i ≡ true
 holds counts o i l = ap not (ne-eqb (countOf counts i o) 0 (λ q. omega arith))
@@ -150,7 +167,7 @@ module _ (P : Program) (s : State) where
       go i l true a = placed-intro P (s .objects) (threadAt s i) (h i l a)
       go i l false a = refl
 
-  counts-elim : countsOk s ≡ true → (i o : ℕ) → i < 8 → o < 32
+  pub counts-elim : countsOk s ≡ true → (i o : ℕ) → i < 8 → o < 32
       → Counted (s .objects) (threadAt s i .live) o (countOf (s .counts) i o)
   unfolding countsOk threadCountsOk
   counts-elim e i o l k = counted-elim (s .objects) (threadAt s i .live) o _ (all-elim _ 32 (all-elim _ 8 e i l) o k)
@@ -159,19 +176,32 @@ module _ (P : Program) (s : State) where
   unfolding countsOk threadCountsOk
   counts-intro h = all-intro _ 8 (λ i l. all-intro _ 32 (λ o k. counted-intro (s .objects) (threadAt s i .live) o _ (h i o l k)))
 
+  pub words-elim : wordsAgree s ≡ true → Worded s
+  unfolding wordsAgree wordAgrees
+  words-elim e i o l k = agrees-elim (wordOf (s .held) i) o (countOf (s .counts) i o) (all-elim _ 32 (all-elim _ 8 e i l) o k)
+
+  words-intro : Worded s → wordsAgree s ≡ true
+  unfolding wordsAgree wordAgrees
+  words-intro h = all-intro _ 8 (λ i l. all-intro _ 32 (λ o k. agrees-intro (wordOf (s .held) i) o (countOf (s .counts) i o) (h i o l k)))
+
+  pub objects-elim : objectsOk P (s .objects) (s .classes) ≡ true → s .objects ≤ 32
+  unfolding objectsOk
+  objects-elim e = leb-true _ _ (search (and-fst, and-snd))
+
   pub belongs-elim : stateOk P s ≡ true → Belongs P s
   unfolding stateOk objectsOk firstOk soleHolders fieldsOk fieldsRefer
   belongs-elim e =
       let counts = counts-elim (search (and-fst, and-snd)) in
       record {
         live-placed = threads-elim (search (and-fst, and-snd));
-        some-object = leb-true _ _ (search (and-fst, and-snd) depth 6);
-        first-class = eqb-true _ _ (search (and-fst, and-snd) depth 6);
-        objects-32 = leb-true _ _ (search (and-fst, and-snd));
-        object-class = λ o l. ltb-true _ _ (all-elim (objectOk P (s .classes)) (s .objects) (search (and-fst, and-snd)) o l);
+        some-object = leb-true _ _ (search (and-fst, and-snd) depth 8);
+        first-class = eqb-true _ _ (search (and-fst, and-snd) depth 8);
+        objects-32 = objects-elim (search (and-fst, and-snd));
+        object-class = λ o l. ltb-true _ _ (all-elim (objectOk P (s .classes)) (s .objects) (search (and-fst, and-snd) depth 8) o l);
         field-refers = λ o f l k. all-elim _ (P .method (classOf s o) .fields) (all-elim (fieldsRefer P (s .objects) (s .classes) (s .fields)) (s .objects) (search (and-fst, and-snd)) o l) f k;
         counted = counts;
         one-holder = λ i j o a b l d f. sole-elim (s .counts) o i j (all-elim (soleHolder (s .counts)) (s .objects) (search (and-fst, and-snd)) o (counts i o a l .on-object d)) a b d f;
+        worded = words-elim (search (and-fst, and-snd));
       }
 
   pub belongs-intro : Belongs P s → stateOk P s ≡ true
@@ -184,6 +214,7 @@ module _ (P : Program) (s : State) where
         all-intro _ (s .objects) (λ o l. lt-ltb _ _ (h .object-class o l)),
         threads-intro (h .live-placed),
         counts-intro (h .counted),
+        words-intro (h .worded),
         all-intro _ (s .objects) (λ o l. sole-intro (s .counts) o (λ i j a b. h .one-holder i j o a b (omega (arith, h .objects-32)))),
         all-intro _ (s .objects) (λ o l. all-intro _ (P .method (classOf s o) .fields) (λ f k. h .field-refers o f l k)),
       )

@@ -1,1 +1,2 @@
 pub mod Belongs
+pub mod Words

@@ -1,16 +1,18 @@
--- Document 01, answer 18: when a state is one of a bundle.
-use mathlib.Core.Bool.{Bool, _&&_, _||_, not}
+-- Documents 01 and 02, answer 18: when a state is one of a bundle.
+use mathlib.Core.Path.{_≡_}
+use mathlib.Core.Bool.{Bool, cond, _&&_, _||_, not}
 use mathlib.Core.List.{List}
-use Prim.Native.Nat.{ℕ}
+use Prim.Native.Nat.{ℕ, _<_}
 use lib.Dec.{ltb, leb, eqb}
 use lib.ListN.{getD}
 use Rattle.ground.specs.Bounded.{allBelow, countBelow}
 use Rattle.bundle.specs.Program.{Program}
+use Rattle.held.specs.Word.{bit}
 use Rattle.values.specs.Values.{zeroSlot, refers}
 use Rattle.values.specs.declared.Slot.{Slot}
 use Rattle.threads.specs.declared.Thread.{Thread}
 use Rattle.state.specs.declared.State.{State}
-use Rattle.state.specs.State.{threadAt, countOf, fieldOf, isFree}
+use Rattle.state.specs.State.{threadAt, countOf, wordOf, fieldOf, isFree}
 
 abbrev pub placeRefers : ℕ → List Slot → ℕ → Bool
 placeRefers objects l i = refers objects (getD l i zeroSlot)
@@ -83,6 +85,32 @@ threadCountsOkAt s i = threadCountsOk (s .counts) (s .objects) (threadAt s i .li
 unfoldable pub countsOk : State → Bool
 countsOk s = allBelow 8 (threadCountsOkAt s)
 
+-- bit o of the word w is set exactly when the count n is above zero
+abbrev pub bitAgrees : ℕ → ℕ → ℕ → Bool
+bitAgrees w o n = cond (ltb 0 n) (bit w o) (not (bit w o))
+
+abbrev pub bitAgreesAt : List ℕ → ℕ → ℕ → ℕ → Bool
+bitAgreesAt counts w i o = bitAgrees w o (countOf counts i o)
+
+-- the word w agrees with thread i's counts, object by object (it is 32 bits long, so no bit is left)
+unfoldable pub wordAgrees : List ℕ → ℕ → ℕ → Bool
+wordAgrees counts w i = allBelow 32 (bitAgreesAt counts w i)
+
+-- thread i's counts and its word
+abbrev pub threadHeldOk : List ℕ → ℕ → Bool → ℕ → ℕ → Bool
+threadHeldOk counts objects live w i = threadCountsOk counts objects live i && wordAgrees counts w i
+
+abbrev pub wordAgreesAt : State → ℕ → Bool
+wordAgreesAt s i = wordAgrees (s .counts) (wordOf (s .held) i) i
+
+-- 18 is now also given when the word and the counts disagree: at any of the eight threads, live or not (document 02, Q-4)
+unfoldable pub wordsAgree : State → Bool
+wordsAgree s = allBelow 8 (wordAgreesAt s)
+
+-- .. which says: bit o of each thread's word is set exactly when its count for object o is above zero
+abbrev pub Worded : State → Type 0
+Worded s = (i o : ℕ) → i < 8 → o < 32 → bit (wordOf (s .held) i) o ≡ ltb 0 (countOf (s .counts) i o)
+
 abbrev pub holdsAt : List ℕ → ℕ → ℕ → Bool
 holdsAt counts o i = not (isFree counts i o)
 
@@ -98,7 +126,18 @@ soleHolders counts objects = allBelow objects (soleHolder counts)
 unfoldable pub stateOk : Program → State → Bool
 stateOk P s =
     objectsOk P (s .objects) (s .classes)
+    && fieldsOk P (s .objects) (s .classes) (s .fields)
     && threadsOk P s
     && countsOk s
+    && wordsAgree s
     && soleHolders (s .counts) (s .objects)
-    && fieldsOk P (s .objects) (s .classes) (s .fields)
+
+-- no clause of 18: what the code asks in place of `soleHolders`, once words and counts agree: no bit is set in two words
+abbrev pub hasBit : List ℕ → ℕ → ℕ → Bool
+hasBit held o i = bit (wordOf held i) o
+
+abbrev pub bitAlone : List ℕ → ℕ → Bool
+bitAlone held o = leb (countBelow 8 (hasBit held o)) 1
+
+unfoldable pub bitsApart : List ℕ → Bool
+bitsApart held = allBelow 32 (bitAlone held)

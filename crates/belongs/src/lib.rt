@@ -1,8 +1,7 @@
-// Answer 18 of document 01: whether a state is one of a bundle.
+// Answer 18 of documents 01 and 02: whether a state is one of a bundle.
 ghost use mathlib.Core.Path.{_≡_};
-ghost use mathlib.Core.Bool.{cond};
 ghost use Rattle.bundle.specs.Program.{programOf};
-ghost use Rattle.belongs.specs.Belongs.{placesRefer, placedOk, liveOk, threadOk, firstOk, objectsOk, fieldsOk, countOk, threadCountsOk, holdsAt, soleHolder, soleHolders, stateOk};
+ghost use Rattle.belongs.specs.Belongs.{placesRefer, placedOk, liveOk, threadOk, firstOk, objectsOk, fieldsOk, countOk, threadHeldOk, bitsApart, stateOk};
 use bundle::Class;
 use state::State;
 use threads::Thread;
@@ -129,51 +128,36 @@ fn count_ok(objects: u8, live: bool, o: u8, n: u16) -> bool
     live
 }
 
-fn thread_counts_ok(counts: &[u16], objects: u8, live: bool, i: u8) -> bool
-    ensures { λ r. ⌜ r ≡ threadCountsOk (now (counts .entry)) objects live i ⌝ }
+// The word that the counts come to is made beside their test, and compared once.
+fn thread_held_ok(counts: &[u16], objects: u8, live: bool, w: u32, i: u8) -> bool
+    ensures { λ r. ⌜ r ≡ threadHeldOk (now (counts .entry)) objects live w i ⌝ }
 {
+    let mut made: u32 = 0;
     let mut o: u8 = 0;
     while o < 32 {
-        if !count_ok(objects, live, o, state::count(counts, i, o)) {
+        let n = state::count(counts, i, o);
+        if !count_ok(objects, live, o, n) {
             return false;
         }
+        made = held::mark(made, o, n);
         o += 1;
     }
-    true
+    made == w
 }
 
-// 1 for a thread that holds the object, and 0 for another.
-fn holds(counts: &[u16], o: u8, i: u8) -> u8
-    ensures { λ r. ⌜ r ≡ cond (holdsAt (now (counts .entry)) o i) 1 0 ⌝ }
+// Two holders of one object, asked of the words, which agree with the counts by then.
+fn bits_apart(words: [u32; 8]) -> bool
+    ensures { λ r. ⌜ r ≡ bitsApart words ⌝ }
 {
-    if state::count(counts, i, o) == 0 {
-        0
-    } else {
-        1
-    }
-}
-
-fn sole_holder(counts: &[u16], o: u8) -> bool
-    ensures { λ r. ⌜ r ≡ soleHolder (now (counts .entry)) o ⌝ }
-{
-    let mut n: u8 = 0;
-    let mut i: u8 = 0;
+    let mut taken: u32 = 0;
+    let mut i: usize = 0;
     while i < 8 {
-        n += holds(counts, o, i);
-        i += 1;
-    }
-    n <= 1
-}
-
-fn sole_holders(counts: &[u16], objects: u8) -> bool
-    ensures { λ r. ⌜ r ≡ soleHolders (now (counts .entry)) objects ⌝ }
-{
-    let mut o: u8 = 0;
-    while o < objects {
-        if !sole_holder(counts, o) {
+        let w = words[i];
+        if !held::apart(taken, w) {
             return false;
         }
-        o += 1;
+        taken = taken | w;
+        i += 1;
     }
     true
 }
@@ -185,9 +169,6 @@ pub fn state_ok(b: &[u8], s: State) -> bool
     if !objects_ok(b, s.objects, &s.classes) {
         return false;
     }
-    if !sole_holders(&s.counts, s.objects) {
-        return false;
-    }
     let fields = s.fields;
     if !fields_ok(b, s.objects, &s.classes, fields) {
         return false;
@@ -196,13 +177,15 @@ pub fn state_ok(b: &[u8], s: State) -> bool
     while i < 8 {
         let k = i as usize;
         let t = s.threads[k];
+        let w = s.held[k];
         if !thread_ok(b, s.objects, t) {
             return false;
         }
-        if !thread_counts_ok(&s.counts, s.objects, t.live, i) {
+        if !thread_held_ok(&s.counts, s.objects, t.live, w, i) {
             return false;
         }
         i += 1;
     }
-    true
+    let words = s.held;
+    bits_apart(words)
 }

@@ -3,8 +3,9 @@ use mathlib.Core.List.{List}
 use Prim.Native.Nat.{ℕ}
 use Rattle.ground.specs.Bounded.{firstBelow, countBelow, setBelow, fillFrom}
 use Rattle.threads.specs.Threads.{topped, pushed, popped, stored, ended, started}
+use Rattle.held.specs.Word.{bit, setBit, clearBit, marked}
 use Rattle.state.specs.State.{fieldsWith, withObject, othersFree, holdsNothing, lowestFree}
-use Rattle.belongs.specs.Belongs.{placesRefer, placedOk, liveOk, threadOk, threadsOk, firstOk, objectsOk, fieldsRefer, fieldsOk, countOk, threadCountsOk, countsOk, soleHolder, soleHolders, stateOk}
+use Rattle.belongs.specs.Belongs.{placesRefer, placedOk, liveOk, threadOk, threadsOk, firstOk, objectsOk, fieldsRefer, fieldsOk, countOk, threadCountsOk, countsOk, wordAgrees, wordsAgree, soleHolder, soleHolders, stateOk}
 use Rattle.machine.specs.Answers.{unlessDrawn}
 use Rattle.machine.specs.Faults.{isArgument, argumentsOk, mayBeObject, isFieldValue}
 use Rattle.machine.specs.Machine.{freshOf, runOf, stepOf}
@@ -13,5 +14,5 @@ use Rattle.cases.proofs.Judgement.{judgement}
 use Rattle.examples.specs.Runs.{answersFrom, answers}
 
 unfoldable pub answered : List ℕ → List Step → List ℕ
-unfolding judgement answersFrom firstBelow countBelow setBelow fillFrom topped pushed popped stored ended started fieldsWith withObject othersFree holdsNothing lowestFree placesRefer placedOk liveOk threadOk threadsOk firstOk objectsOk fieldsRefer fieldsOk countOk threadCountsOk countsOk soleHolder soleHolders stateOk unlessDrawn isArgument argumentsOk mayBeObject isFieldValue freshOf runOf stepOf
+unfolding judgement answersFrom firstBelow countBelow setBelow fillFrom topped pushed popped stored ended started bit setBit clearBit marked fieldsWith withObject othersFree holdsNothing lowestFree placesRefer placedOk liveOk threadOk threadsOk firstOk objectsOk fieldsRefer fieldsOk countOk threadCountsOk countsOk wordAgrees wordsAgree soleHolder soleHolders stateOk unlessDrawn isArgument argumentsOk mayBeObject isFieldValue freshOf runOf stepOf
 answered b xs = answers b xs

@@ -1,4 +1,4 @@
--- What the C calls give: a verdict as one number, and a run of the machine as one number.
+-- What the C calls give: a verdict, a run of the machine, and how many objects a thread holds, each as one number.
 use mathlib.Core.List.{List}
 use mathlib.Core.Bool.{Bool, cond}
 use Prim.Native.Nat.{ℕ, zero, suc, _+_, _*_, _%_}
@@ -8,8 +8,10 @@ use Rattle.ground.specs.Bytes.{at}
 use Rattle.bundle.specs.Container.{classAt}
 use Rattle.structure.specs.declared.Verdict.{Verdict}
 use Rattle.structure.specs.Structure.{recordOf}
+use Rattle.state_bytes.specs.Format.{isState, stateOf}
 use Rattle.machine.specs.declared.Stepped.{Stepped}
 use Rattle.machine.specs.Machine.{freshOf, stepOf}
+use Rattle.holding.specs.Question.{heldOf}
 use Rattle.exports.specs.declared.Running.{Running}
 
 -- the number in the low byte, the class in the next, the address in the two above, why in the upper half
@@ -21,6 +23,12 @@ unfoldable pub packedRecord : List ℕ → ℕ → ℕ
 packedRecord b c =
     let n = length (recordOf b c) in
     cond (eqb n 0) 0 (4294967296 * (n % 65536) + classAt b c .offset)
+
+-- the question how many objects thread i holds, of a state in the trace's bytes: the answer times 256, and the number; 4294901760 where g is no state
+unfoldable pub packedHeld : List ℕ → List ℕ → ℕ → ℕ
+packedHeld b g i =
+    let h = heldOf b (stateOf g) i in
+    cond (isState g) (256 * h .answer + h .number) 4294901760
 
 -- a schedule byte: the low four bits are the thread, the top bit says that new fails
 abbrev pub who : ℕ → ℕ

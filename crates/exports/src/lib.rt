@@ -5,7 +5,7 @@ ghost use mathlib.Core.Path.{_≡_};
 ghost use Prim.Native.Nat.{_<_};
 ghost use Rattle.verifier.specs.Verdict.{verdictOf};
 ghost use Rattle.machine.specs.Machine.{stepOf};
-ghost use Rattle.exports.specs.Exports.{packed, packedRecord, advanced, digestOf, answersOf};
+ghost use Rattle.exports.specs.Exports.{packed, packedRecord, packedHeld, advanced, digestOf, answersOf};
 use state::State;
 use structure::Verdict;
 
@@ -42,6 +42,18 @@ pub extern "C" fn hveitmar_record(b: &[u8], class: u8) -> u64
         return 0;
     }
     4294967296 * ((n % 65536) as u64) + bundle::class_at(b, class).offset as u64
+}
+
+// How many objects a thread holds in a state that comes as bytes: the answer times 256, and the number; 4294901760 where they are no state.
+#[no_mangle]
+pub extern "C" fn hveitmar_held(b: &[u8], g: &[u8], thread: u8) -> u32
+    ensures { λ r. ⌜ r ≡ packedHeld (now (b .entry)) (now (g .entry)) thread ⌝ }
+{
+    if !state_bytes::is_state(g) {
+        return 4294901760;
+    }
+    let h = holding::held(b, state_bytes::state(g), thread);
+    256 * (h.answer as u32) + h.number as u32
 }
 
 fn advance(b: &[u8], r: Running, thread: u8, fails: bool) -> Running

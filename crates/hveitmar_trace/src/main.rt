@@ -46,9 +46,9 @@ fn print_trace(s: &[u8]) {
     print::drain(&out, p);
 }
 
-// The longest input is 2 + 65,535 + 1 + 2,505 + 4,096 bytes: what fills a buffer of one more has too many steps.
+// The longest input is 2 + 65,535 + 1 + 2,537 + 4,096 bytes: what fills a buffer of one more has too many steps.
 fn main() {
-    let mut space = [0u8; 72140];
+    let mut space = [0u8; 72172];
     let got = input::read(STDIN_FILENO, &mut space);
     if got.failed {
         os::fail(b"standard input");

@@ -107,11 +107,12 @@ fn put_thread(out: &mut [u8], at: usize, i: u8, t: Thread) -> usize {
     put_values(out, q, t)
 }
 
-fn thread_line(out: &mut [u8], at: usize, i: u8, t: Thread, counts: &[u16]) -> usize {
+fn thread_line(out: &mut [u8], at: usize, i: u8, t: Thread, counts: &[u16], held: u32) -> usize {
     let p = put_thread(out, at, i, t);
     let q = put_all(out, p, b" counts");
     let r = put_counts(out, q, counts, i);
-    put(out, r, b'\n')
+    let e = put_field(out, r, b" held ", held as u64);
+    put(out, e, b'\n')
 }
 
 fn objects_line(out: &mut [u8], at: usize, objects: u8, classes: &[u8]) -> usize {
@@ -165,7 +166,8 @@ pub(crate) fn step_line(
 pub(crate) fn state_lines(out: &mut [u8], at: usize, s: State) -> usize {
     let mut p = at;
     for i in 0..8u8 {
-        p = thread_line(out, p, i, state::thread(s, i), &s.counts);
+        let held = s.held[i as usize];
+        p = thread_line(out, p, i, state::thread(s, i), &s.counts, held);
     }
     p = objects_line(out, p, s.objects, &s.classes);
     let fields = s.fields;

@@ -6,16 +6,19 @@ use mathlib.Core.List.{List}
 use Prim.Native.Nat.{ℕ, zero, suc, _+_, _*_, _≤_, _<_}
 use native.Mathlib.Omega.{arith}
 use native.Mathlib.Decide.{ℕ-discrete}
-use lib.ListN.{getD, set}
+use lib.ListN.{getD, length, set, length-set}
 use lib.Dec.{ltb, eqb}
-use lib.Seq.{getD-set-other}
+use lib.Seq.{getD-set-same, getD-set-other}
+use Rattle.held.specs.Word.{bit, marked}
+use Rattle.held.proofs.Word.{marked-same, marked-other}
 use Rattle.bundle.specs.Program.{Method, Program}
 use Rattle.values.specs.declared.Slot.{Slot}
 use Rattle.values.specs.Values.{zeroSlot, nullSlot, refers}
 use Rattle.threads.specs.declared.Thread.{Thread}
 use Rattle.threads.specs.Threads.{idle}
 use Rattle.state.specs.declared.State.{State}
-use Rattle.state.specs.State.{threadAt, countOf, withThread, withCount, fieldOf, withField, fieldsWith}
+use Rattle.state.specs.State.{threadAt, countOf, wordOf, withThread, withCount, fieldOf, withField, fieldsWith}
+use Rattle.belongs.specs.Belongs.{Worded}
 use Rattle.belongs.proofs.Belongs.{Placed, Counted, Belongs}
 use Rattle.machine.specs.Moves.{firstField, firstFields}
 use Rattle.machine.proofs.Writes.{write-or, write-in, fields-in}
@@ -30,6 +33,7 @@ grown s c first =
       objects = s .objects + 1;
       classes = set (s .classes) (s .objects) c;
       fields = fieldsWith (s .fields) (s .objects) first;
+      held = s .held;
     }
 
 -- what field place f of a new object holds
@@ -48,6 +52,37 @@ first-refers m objects f l = rw (first-at m f l) (go (ltb f (m .fields) && not (
     go true = refl
     go false = refl
 
+-- there is a place for each count and a word for each thread, as the arrays have it
+pub record Sized (s : State) : Type 0 where
+  pub counts-256 : length (s .counts) ≡ 256
+  pub held-8 : length (s .held) ≡ 8
+
+pub counted-sized : (s : State) → Sized s → (i o n : ℕ) → Sized (withCount s i o n)
+counted-sized s z i o n =
+    record {
+      counts-256 = length-set (s .counts) (i * 32 + o) n ∙ z .counts-256;
+      held-8 = length-set (s .held) i (marked (wordOf (s .held) i) o n) ∙ z .held-8;
+    }
+
+-- where a count is written, its bit goes with it
+pub words-written : (s : State) → Worded s → Sized s → (i o n : ℕ) → i < 8 → o < 32 → Worded (withCount s i o n)
+words-written s h z i o n l small j p e f = go (ℕ-discrete j i) (ℕ-discrete p o)
+  where
+    word : ℕ
+    word = marked (wordOf (s .held) i) o n
+
+    unwritten : (j p : ℕ) → (j * 32 + p) ≢ (i * 32 + o) → countOf (set (s .counts) (i * 32 + o) n) j p ≡ countOf (s .counts) j p
+    unwritten j p q = getD-set-other (s .counts) (i * 32 + o) (j * 32 + p) n 0 q
+
+    go : Dec (j ≡ i) → Dec (p ≡ o) → bit (wordOf (set (s .held) i word) j) p ≡ ltb 0 (countOf (set (s .counts) (i * 32 + o) n) j p)
+    go (yes q) (yes r) =
+        rw (q, r, getD-set-same (s .held) i word 0 (omega (arith, z .held-8)), getD-set-same (s .counts) (i * 32 + o) n 0 (omega (arith, z .counts-256)))
+        (marked-same (wordOf (s .held) i) o n small)
+    go (yes q) (no r) =
+        rw (q, getD-set-same (s .held) i word 0 (omega (arith, z .held-8)), unwritten i p (λ w. omega arith))
+        (marked-other (wordOf (s .held) i) o n p small f (λ w. r (sym w)) ∙ h i p l f)
+    go (no q) r = rw (getD-set-other (s .held) i j word 0 q, unwritten j p (λ w. omega arith)) (h j p e f)
+
 module _ (P : Program) (s : State) (h : Belongs P s) where
   -- a thread that holds something stays live
   pub thread-belongs : (i : ℕ) (u : Thread) → (u .live ≡ true → Placed P (s .objects) u)
@@ -62,6 +97,7 @@ module _ (P : Program) (s : State) (h : Belongs P s) where
         field-refers = h .field-refers;
         counted = λ j o l k. write-or (λ (t : Thread). Counted (s .objects) (t .live) o (countOf (s .counts) j o)) (s .threads) i j u idle (h .counted j o l k) (λ q. at j o k q (h .counted j o l k));
         one-holder = h .one-holder;
+        worded = h .worded;
       }
     where
       at : (j o : ℕ) → o < 32 → j ≡ i → Counted (s .objects) (threadAt s j .live) o (countOf (s .counts) j o)
@@ -69,9 +105,9 @@ module _ (P : Program) (s : State) (h : Belongs P s) where
       at j o k q d = record { count-2047 = d .count-2047; on-object = d .on-object; by-live = λ n. c o k (rw q at n) }
 
   -- no other thread holds the object
-  pub count-belongs : (i o n : ℕ) → i < 8 → o < s .objects → threadAt s i .live ≡ true → n ≤ 2047
+  pub count-belongs : Sized s → (i o n : ℕ) → i < 8 → o < s .objects → threadAt s i .live ≡ true → n ≤ 2047
       → ((j : ℕ) → j < 8 → 0 < countOf (s .counts) j o → j ≡ i) → Belongs P (withCount s i o n)
-  count-belongs i o n l b a m others =
+  count-belongs z i o n l b a m others =
       record {
         live-placed = h .live-placed;
         some-object = h .some-object;
@@ -81,6 +117,7 @@ module _ (P : Program) (s : State) (h : Belongs P s) where
         field-refers = h .field-refers;
         counted = λ j p e f. write-or (λ (k : ℕ). Counted (s .objects) (threadAt s j .live) p k) (s .counts) (i * 32 + o) (j * 32 + p) n 0 (h .counted j p e f) (λ q. at j p f q);
         one-holder = λ j k p e f g x y. sole j k p e f g x y (ℕ-discrete p o);
+        worded = words-written s (h .worded) z i o n l small;
       }
     where
       small : o < 32
@@ -120,6 +157,7 @@ module _ (P : Program) (s : State) (h : Belongs P s) where
         field-refers = λ p g l k. write-or (λ (y : Slot). refers (s .objects) y ≡ true) (s .fields) (o * 4 + f) (p * 4 + g) x zeroSlot (h .field-refers p g l k) (λ q. e);
         counted = h .counted;
         one-holder = h .one-holder;
+        worded = h .worded;
       }
 
   -- the new object's fields refer, and no class has more than four
@@ -135,6 +173,7 @@ module _ (P : Program) (s : State) (h : Belongs P s) where
         field-refers = λ o f e k. let small : f < 4 = omega (arith, few _ (known o e)) in fields-in (λ (y : Slot). refers (s .objects + 1) y ≡ true) (s .fields) first (s .objects) o f small refl (λ q. new f small) (λ q. refers-more (s .objects) (fieldOf (s .fields) o f) (h .field-refers o f (omega arith) (rw (getD-set-other (s .classes) (s .objects) o c 0 q) at k)));
         counted = λ i o e f. more i o (h .counted i o e f);
         one-holder = h .one-holder;
+        worded = h .worded;
       }
     where
       known : (o : ℕ) → o < s .objects + 1 → getD (set (s .classes) (s .objects) c) o 0 < P .classes

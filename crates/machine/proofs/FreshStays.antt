@@ -7,6 +7,7 @@ use native.Mathlib.Omega.{arith}
 use lib.ListN.{getD-replicate}
 use Rattle.ground.proofs.Bools.{never}
 use Rattle.ground.specs.Chain.{refuse}
+use Rattle.held.proofs.Word.{no-bits}
 use Rattle.bundle.specs.Program.{Program, programOf}
 use Rattle.structure.proofs.Structured.{WellFormed}
 use Rattle.values.specs.declared.Slot.{Slot}
@@ -19,7 +20,7 @@ use Rattle.machine.specs.Moves.{firstFields}
 use Rattle.machine.specs.Machine.{mainThread, freshState, readable, freshOf}
 use Rattle.machine.proofs.Ready.{formed}
 use Rattle.machine.proofs.Writes.{fields-in}
-use Rattle.machine.proofs.Changes.{grown, first-refers, thread-belongs}
+use Rattle.machine.proofs.Changes.{Sized, grown, first-refers, thread-belongs}
 
 empty-thread : (i : ℕ) → i < 8 → threadAt emptyState i ≡ idle
 empty-thread i l = getD-replicate 8 i idle idle l
@@ -46,6 +47,7 @@ one-belongs P wf =
       field-refers = λ o f l k. let q : o ≡ 0 = omega arith in rw q (fresh-refers P wf f (rw q at k));
       counted = λ i o l k. rw (empty-count i o l k) (record { count-2047 = omega arith; on-object = λ n. absurd (omega arith); by-live = λ n. absurd (omega arith) });
       one-holder = λ i j o l k m a b. absurd (omega (arith, empty-count i o l m));
+      worded = λ i o l k. rw (getD-replicate {A = ℕ} 8 i 0 0 l, empty-count i o l k) (no-bits o);
     }
 
 fresh-placed : (P : Program) → WellFormed P → Placed P 1 mainThread
@@ -66,3 +68,7 @@ fresh-belongs b e =
     rw e
     (belongs-intro (programOf b) (freshState (programOf b))
     (thread-belongs (programOf b) (grown emptyState (programOf b .exception) (firstFields (programOf b .method (programOf b .exception)))) (one-belongs (programOf b) (formed b e)) 0 mainThread (λ a. fresh-placed (programOf b) (formed b e)) (λ o l n. refl)))
+
+pub fresh-sized : (b : List ℕ) → readable b ≡ true → Sized (freshOf b .state)
+unfolding freshOf refuse withObject
+fresh-sized b e = rw e (record { counts-256 = refl; held-8 = refl })

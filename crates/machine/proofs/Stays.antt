@@ -1,4 +1,4 @@
--- THEOREM: from a state of the bundle a step gives a state of the bundle, whatever it answers.
+-- THEOREM: from a state of the bundle a step gives a state of the bundle, whatever it answers. (A state's counts are 256 and its words eight: with fewer, a count could be written whose bit has no place.)
 use mathlib.Core.Path.{_≡_, refl, _∙_}
 use mathlib.Core.Bool.{Bool, true, false}
 use mathlib.Core.List.{List}
@@ -35,25 +35,33 @@ use Rattle.machine.specs.Moves.{wentTo, wentOn, incMove, storeMove, ifMo
 use Rattle.machine.specs.Machine.{stepOf}
 use Rattle.machine.proofs.Refusals.{either, methodHere, instructionHere, Moving, step-by}
 use Rattle.machine.proofs.Moved.{refers-inc, placed-more, a-ref, owner, Moved, unmoved, entry-refers, moved-topped, moved-pushed, moved-popped, moved-stored, moved-placed}
-use Rattle.machine.proofs.Changes.{grown, first-refers, thread-belongs, count-belongs, field-belongs, object-belongs}
+use Rattle.machine.proofs.Changes.{Sized, counted-sized, grown, first-refers, thread-belongs, count-belongs, field-belongs, object-belongs}
 
 pub record Stays (P : Program) (r : Stepped) : Type 0 where
   pub stays : Belongs P (r .state)
+  pub sized : Sized (r .state)
+
+-- what writes neither counts nor words
+same-sized : (s s′ : State) → Sized s → s′ .counts ≡ s .counts → s′ .held ≡ s .held → Sized s′
+same-sized s s′ z p q = record { counts-256 = rw p (z .counts-256); held-8 = rw q (z .held-8) }
 
 started-live : (old t : Thread) (c args : ℕ) → started old t c args .live ≡ true
 unfolding started
 started-live old t c args = refl
 
-module _ (P : Program) (wf : WellFormed P) (s : State) (h : Belongs P s) (i : ℕ) (l : i < 8) (t : Thread) (live : t .live ≡ true) (p : Placed P (s .objects) t) where
+module _ (P : Program) (wf : WellFormed P) (s : State) (h : Belongs P s) (z : Sized s) (i : ℕ) (l : i < 8) (t : Thread) (live : t .live ≡ true) (p : Placed P (s .objects) t) where
   abbrev method : Method
   method = P .method (t .class)
 
-  goes : (s′ : State) → Belongs P s′ → (u : Thread) → Moved P (s′ .objects) t u → (a : ℕ) → 1 ≤ a → a ≤ method .code → Stays P (wentTo s′ i u a)
-  goes s′ h′ u m a f k =
-      record { stays = thread-belongs P s′ h′ i (withAt u a) (λ e. moved-placed P (s′ .objects) t u m a (p .class-known) f k) (λ o b n. m .same-live ∙ live) }
+  goes : (s′ : State) → Belongs P s′ → Sized s′ → (u : Thread) → Moved P (s′ .objects) t u → (a : ℕ) → 1 ≤ a → a ≤ method .code → Stays P (wentTo s′ i u a)
+  goes s′ h′ z′ u m a f k =
+      record {
+        stays = thread-belongs P s′ h′ i (withAt u a) (λ e. moved-placed P (s′ .objects) t u m a (p .class-known) f k) (λ o b n. m .same-live ∙ live);
+        sized = same-sized s′ (withThread s′ i (withAt u a)) z′ refl refl;
+      }
 
-  on : (s′ : State) → Belongs P s′ → (u : Thread) → Moved P (s′ .objects) t u → t .at .0 < method .code → Stays P (wentOn s′ i (t .at) u)
-  on s′ h′ u m k = goes s′ h′ u m (t .at .0 + 1) (omega arith) (omega arith)
+  on : (s′ : State) → Belongs P s′ → Sized s′ → (u : Thread) → Moved P (s′ .objects) t u → t .at .0 < method .code → Stays P (wentOn s′ i (t .at) u)
+  on s′ h′ z′ u m k = goes s′ h′ z′ u m (t .at .0 + 1) (omega arith) (omega arith)
 
   as-was : Moved P (s .objects) t t
   as-was = unmoved P (s .objects) t p
@@ -63,18 +71,18 @@ module _ (P : Program) (wf : WellFormed P) (s : State) (h : Belongs P s) (i : �
 
   inc-stays : t .at .0 < method .code → intFault t ≡ 0 → Stays P (incMove s i t)
   inc-stays k f =
-      on s h (topped t (incSlot (topOf t))) (moved-topped P (s .objects) t t as-was _ (refers-inc (s .objects) (topOf t) (top-refers (tested _ _ _ f .0)))) k
+      on s h z (topped t (incSlot (topOf t))) (moved-topped P (s .objects) t t as-was _ (refers-inc (s .objects) (topOf t) (top-refers (tested _ _ _ f .0)))) k
 
   pop-stays : (a : ℕ) → 1 ≤ a → a ≤ method .code → Stays P (wentTo s i (popped 1 t) a)
-  pop-stays = goes s h (popped 1 t) (moved-popped P (s .objects) t t as-was 1)
+  pop-stays = goes s h z (popped 1 t) (moved-popped P (s .objects) t t as-was 1)
 
   push-stays : t .at .0 < method .code → (x : Slot) → refers (s .objects) x ≡ true → pushFault t (method .limit) ≡ 0 → Stays P (wentOn s i (t .at) (pushed t x))
   push-stays k x r f =
-      on s h (pushed t x) (moved-pushed P (s .objects) t t as-was x r (ltb-true _ _ (tested _ _ _ f .0)) (wf .limit-16 (t .class) (p .class-known))) k
+      on s h z (pushed t x) (moved-pushed P (s .objects) t t as-was x r (ltb-true _ _ (tested _ _ _ f .0)) (wf .limit-16 (t .class) (p .class-known))) k
 
   store-stays : t .at .0 < method .code → (v : Var) → topFault t ≡ 0 → Stays P (storeMove s i t v)
   store-stays k v f =
-      on s h (popped 1 (stored t (v .0) (topOf t))) (moved-popped P (s .objects) t _ (moved-stored P (s .objects) t t as-was (v .0) _ (top-refers (tested _ _ _ f .0))) 1) k
+      on s h z (popped 1 (stored t (v .0) (topOf t))) (moved-popped P (s .objects) t _ (moved-stored P (s .objects) t t as-was (v .0) _ (top-refers (tested _ _ _ f .0))) 1) k
 
   if-stays : t .at .0 < method .code → (a : Addr) → 1 ≤ a .0 → a .0 ≤ method .code → Stays P (ifMove s i t a)
   if-stays k a f g = either (Stays P) (jumps (topOf t)) _ _ (λ _. pop-stays (a .0) f g) (λ _. pop-stays (t .at .0 + 1) (omega arith) (omega arith))
@@ -85,7 +93,7 @@ module _ (P : Program) (wf : WellFormed P) (s : State) (h : Belongs P s) (i : �
 
   counted-stays : threadAt s i .live ≡ true → t .at .0 < method .code → (o n : ℕ) → o < s .objects → n ≤ 2047
       → ((j : ℕ) → j < 8 → 0 < countOf (s .counts) j o → j ≡ i) → Stays P (counted s i t o n)
-  counted-stays a k o n b m others = on (withCount s i o n) (count-belongs P s h i o n l b a m others) t as-was k
+  counted-stays a k o n b m others = on (withCount s i o n) (count-belongs P s h z i o n l b a m others) (counted-sized s z i o n) t as-was k
 
   others-free : (o j : ℕ) → othersFree (s .counts) i o ≡ true → j < 8 → 0 < countOf (s .counts) j o → j ≡ i
   unfolding othersFree
@@ -109,7 +117,10 @@ module _ (P : Program) (wf : WellFormed P) (s : State) (h : Belongs P s) (i : �
   end-stays : (vars n : ℕ) → endFault (s .counts) i ≡ 0 → Stays P (endMove s i t vars n)
   unfolding holdsNothing ended
   end-stays vars n f =
-      record { stays = thread-belongs P s h i (ended vars t) (λ a. never a refl) (λ o b c. absurd (omega (arith, eqb-true (countOf (s .counts) i o) 0 (all-elim (isFree (s .counts) i) 32 (tested _ _ _ f .0) o b)))) }
+      record {
+        stays = thread-belongs P s h i (ended vars t) (λ a. never a refl) (λ o b c. absurd (omega (arith, eqb-true (countOf (s .counts) i o) 0 (all-elim (isFree (s .counts) i) 32 (tested _ _ _ f .0) o b))));
+        sized = same-sized s (withThread s i (ended vars t)) z refl refl;
+      }
 
   throw-stays : (vars : ℕ) (a : Addr) (x : Slot) → a .0 ≤ method .code → refers (s .objects) x ≡ true
       → throwFault (s .counts) i (method .limit) a ≡ 0 → Stays P (throwMove s i t vars a x)
@@ -117,7 +128,7 @@ module _ (P : Program) (wf : WellFormed P) (s : State) (h : Belongs P s) (i : �
   throw-stays vars a x g r f =
       either (Stays P) (eqb (a .0) 0) _ _ (λ e. end-stays vars 2 (rw e at f))
       (λ e. let some = leb-true 1 (method .limit) (tested _ _ _ (rw e at f) .0) in
-      goes s h (caught t x)
+      goes s h z (caught t x)
       (moved-pushed P (s .objects) t (popped (t .depth) t) (moved-popped P (s .objects) t t as-was (t .depth)) x r (omega arith) (wf .limit-16 (t .class) (p .class-known)))
       (a .0) (omega (arith, eqb-false (a .0) 0 e)) g)
 
@@ -138,28 +149,28 @@ module _ (P : Program) (wf : WellFormed P) (s : State) (h : Belongs P s) (i : �
 
   get-stays : t .at .0 < method .code → (vars c f : ℕ) → f < P .method c .fields → (a : Addr) → a .0 ≤ method .code
       → getFault s i t c (method .limit) a ≡ 0 → Stays P (getMove s i t vars f a)
-  get-stays k vars c f b a g z =
-      let e = tested _ _ _ z in
+  get-stays k vars c f b a g q =
+      let e = tested _ _ _ q in
       let y = tested _ _ _ (e .1) in
       either (Stays P) (isNull (topOf t)) _ _ (λ n. null-stays vars a g (rw n at (y .1)))
       (λ n. let o = owner (s .objects) (s .classes) c (topOf t) (top-refers (e .0)) (y .0) n in
-      on s h (topped t _) (moved-topped P (s .objects) t t as-was _ (h .field-refers _ f (o .0) (rw (o .1) b))) k)
+      on s h z (topped t _) (moved-topped P (s .objects) t t as-was _ (h .field-refers _ f (o .0) (rw (o .1) b))) k)
 
   put-stays : t .at .0 < method .code → (vars c d f : ℕ) (a : Addr) → a .0 ≤ method .code
       → putFault s i t c d (method .limit) a ≡ 0 → Stays P (putMove s i t vars f a)
-  put-stays k vars c d f a g z =
-      let e = tested _ _ _ z in
+  put-stays k vars c d f a g q =
+      let e = tested _ _ _ q in
       let y = tested _ _ _ (e .1) in
       let two = leb-true 2 (t .depth) (e .0) in
       either (Stays P) (isNull (fromTop t 1)) _ _ (λ n. null-stays vars a g (rw n at (y .1)))
-      (λ n. on (withField s _ f (topOf t)) (field-belongs P s h _ f (topOf t) (entry-refers P (s .objects) t p 0 (omega arith)))
+      (λ n. on (withField s _ f (topOf t)) (field-belongs P s h _ f (topOf t) (entry-refers P (s .objects) t p 0 (omega arith))) (same-sized s (withField s _ f (topOf t)) z refl refl)
       (popped 2 t) (moved-popped P (s .objects) t t as-was 2) k)
 
   make-stays : t .at .0 < method .code → (c : ℕ) → c < P .classes → s .objects < 32 → pushFault t (method .limit) ≡ 0 → Stays P (makeMove P s i t c)
   unfolding withObject
   make-stays k c b m f =
       rw (lt-ltb (s .objects) 32 m)
-      (on (grown s c (firstFields (P .method c))) (object-belongs P s h c _ b m (wf .fields-4) (first-refers (P .method c) (s .objects + 1))) (pushed t (refSlot (s .objects)))
+      (on (grown s c (firstFields (P .method c))) (object-belongs P s h c _ b m (wf .fields-4) (first-refers (P .method c) (s .objects + 1))) (same-sized s (grown s c (firstFields (P .method c))) z refl refl) (pushed t (refSlot (s .objects)))
       (moved-pushed P (s .objects + 1) t t (unmoved P (s .objects + 1) t (placed-more P (s .objects) t p)) _ (lt-ltb (s .objects) (s .objects + 1) (omega arith)) (ltb-true _ _ (tested _ _ _ f .0)) (wf .limit-16 (t .class) (p .class-known))) k)
 
   new-stays : t .at .0 < method .code → (vars c : ℕ) → c < P .classes → (a : Addr) → a .0 ≤ method .code → (fails : Bool)
@@ -193,7 +204,7 @@ module _ (P : Program) (wf : WellFormed P) (s : State) (h : Belongs P s) (i : �
   start-stays : t .at .0 < method .code → (c : ℕ) → c < P .classes → startFault (s .classes) t (P .method c .args) (P .method c .descriptor) c ≡ 0
       → Stays P (startMove s i t (P .method c .args) c)
   start-stays k c b f =
-      on (withThread s (lowestFree s) begun) joined
+      on (withThread s (lowestFree s) begun) joined (same-sized s (withThread s (lowestFree s) begun) z refl refl)
       (popped (P .method c .args + 1) t) (moved-popped P (s .objects) t t as-was (P .method c .args + 1)) k
     where
       begun : Thread
@@ -227,17 +238,18 @@ module _ (P : Program) (wf : WellFormed P) (s : State) (h : Belongs P s) (i : �
   move-stays a fails (Put c d b) e f w = put-stays (e .3) (method .vars) c (P .method c .field d) d b (e .2) f
   move-stays a fails Nothing e f w = absurd e
 
-step-stays : (b : List ℕ) (s : State) (i : ℕ) (fails : Bool) → Belongs (programOf b) s → Stays (programOf b) (stepOf b s i fails)
-step-stays b s i fails h = step-by (Stays (programOf b)) b s i fails (λ n. record { stays = h }) go
+step-stays : (b : List ℕ) (s : State) (i : ℕ) (fails : Bool) → Belongs (programOf b) s → Sized s → Stays (programOf b) (stepOf b s i fails)
+step-stays b s i fails h z = step-by (Stays (programOf b)) b s i fails (λ n. record { stays = h; sized = z }) go
   where
     go : Moving b s i fails → Stays (programOf b) (moveOf (programOf b) s i (threadAt s i) (methodHere b s i) fails (instructionHere b s i))
     go m =
         let p = h .live-placed i (m .thread-8) (m .live) in
         let e = m .formed .table (threadAt s i .class) (threadAt s i .at .0) (p .class-known) (p .address-first) (p .address-last) in
-        move-stays (programOf b) (m .formed) s h i (m .thread-8) (threadAt s i) (m .live) p (m .live) fails (instructionHere b s i)
+        move-stays (programOf b) (m .formed) s h z i (m .thread-8) (threadAt s i) (m .live) p (m .live) fails (instructionHere b s i)
         e (m .no-fault) (m .no-wait)
 
-pub step-belongs : (b : List ℕ) (s : State) (i : ℕ) (fails : Bool) → stateOk (programOf b) s ≡ true
-    → stateOk (programOf b) (stepOf b s i fails .state) ≡ true
-step-belongs b s i fails e =
-    belongs-intro (programOf b) (stepOf b s i fails .state) (step-stays b s i fails (belongs-elim (programOf b) s e) .stays)
+pub step-belongs : (b : List ℕ) (s : State) (i : ℕ) (fails : Bool) → Sized s → stateOk (programOf b) s ≡ true
+    → (stateOk (programOf b) (stepOf b s i fails .state) ≡ true) × Sized (stepOf b s i fails .state)
+step-belongs b s i fails z e =
+    let r = step-stays b s i fails (belongs-elim (programOf b) s e) z in
+    (belongs-intro (programOf b) (stepOf b s i fails .state) (r .stays), r .sized)

@@ -24,6 +24,7 @@ use Rattle.state.specs.declared.State.{State}
 use Rattle.state.specs.State.{countOf, classOf, fieldOf, emptyState}
 use Rattle.machine.specs.Moves.{firstFields}
 use Rattle.machine.specs.Machine.{mainThread, freshState}
+use Rattle.held.proofs.Word.{no-bits}
 use Rattle.machine.proofs.Changes.{grown}
 use Rattle.soundness.proofs.Kind.{Matches}
 use Rattle.soundness.proofs.Held.{compared}
@@ -122,11 +123,13 @@ module _ (P : Typed) (A : Accepted P) where
           counts-256 = refl;
           classes-32 = refl;
           fields-128 = fields-length (replicate 128 zeroSlot) 0 (firstFields thrown);
+          held-8 = refl;
           objects-32 = omega arith;
           some-object = omega arith;
           first-class = refl;
           object-class = λ o l. let q : o ≡ 0 = omega arith in rw q (A .formed .exception);
           one-holder = λ i j o li lj lo x z. no-count j o lj lo;
+          worded = λ i o l k. rw (getD-replicate {A = ℕ} 8 i 0 0 l, no-count i o l k) (no-bits o);
           field-holds = λ o f l k. let q : o ≡ 0 = omega arith in rw q (first-field f (rw q at k));
         };
         thread = λ i l. rw (getD-replicate 8 i idle idle l)

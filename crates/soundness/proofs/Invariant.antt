@@ -15,6 +15,7 @@ use Rattle.threads.specs.Threads.{varOf, fromTop}
 use Rattle.state.specs.declared.State.{State}
 use Rattle.state.specs.State.{threadAt, countOf, classOf, fieldOf}
 use Rattle.belongs.specs.Belongs.{stateOk}
+use Rattle.belongs.specs.Belongs.{Worded}
 use Rattle.belongs.proofs.Belongs.{Placed, Counted, Belongs, belongs-intro}
 use Rattle.soundness.proofs.Kind.{Matches, type-refers, field-type}
 use Rattle.soundness.proofs.Weights.{names}
@@ -49,12 +50,15 @@ pub record Whole (P : Typed) (s : State) : Type 0 where
   pub counts-256 : length (s .counts) ≡ 256
   pub classes-32 : length (s .classes) ≡ 32
   pub fields-128 : length (s .fields) ≡ 128
+  pub held-8 : length (s .held) ≡ 8
   pub objects-32 : s .objects ≤ 32
   -- object 0 is there, of the exception class: what a failed new and null throw
   pub some-object : 1 ≤ s .objects
   pub first-class : classOf s 0 ≡ P .program .exception
   pub object-class : (o : ℕ) → o < s .objects → classOf s o < P .program .classes
   pub one-holder : (i j o : ℕ) → i < 8 → j < 8 → o < 32 → i ≢ j → 0 < countOf (s .counts) i o → countOf (s .counts) j o ≡ 0
+  -- each thread's word agrees with its counts
+  pub worded : Worded s
   -- every field in use holds what its descriptor allows; it weighs nothing
   pub field-holds : (o f : ℕ) → o < s .objects → f < P .program .method (classOf s o) .fields
       → Matches (s .objects) (classOf s) (fieldEntry (P .program .method (classOf s o) .field f)) (fieldOf (s .fields) o f .value)
@@ -126,6 +130,7 @@ module _ (P : Typed) (A : Accepted P) (s : State) (inv : Inv P s) where
             type-refers (s .objects) (classOf s) (fieldEntry (P .program .method (classOf s o) .field f)) (fieldOf (s .fields) o f .value) (field-type (P .program .method (classOf s o) .field f)) (inv .whole .field-holds o f l k);
         counted = λ i o l k. counted i o l k (threadAt s i .live) refl;
         one-holder = λ i j o a b l d f. sole i j o a b l d f (ℕ-discrete i j);
+        worded = inv .whole .worded;
       }
     where
       on : (i o : ℕ) → i < 8 → o < 32 → threadAt s i .live ≡ true → 0 < countOf (s .counts) i o → Dec (o < s .objects) → o < s .objects

@@ -20,7 +20,7 @@ use Rattle.state.specs.State.{threadAt, countOf, classOf, fieldOf, withThread, 
 use Rattle.machine.specs.declared.Stepped.{Stepped}
 use Rattle.machine.specs.Answers.{refused}
 use Rattle.machine.specs.Moves.{firstFields}
-use Rattle.machine.proofs.Changes.{grown}
+use Rattle.machine.proofs.Changes.{Sized, counted-sized, words-written, grown}
 use Rattle.soundness.proofs.Kind.{Matches, more-kind}
 use Rattle.soundness.proofs.FieldPlaces.{written, fields-length, fields-written, made-kind}
 use Rattle.soundness.proofs.Accepted.{Accepted}
@@ -70,11 +70,13 @@ module _ (P : Typed) where
             counts-256 = h .whole .counts-256;
             classes-32 = h .whole .classes-32;
             fields-128 = h .whole .fields-128;
+            held-8 = h .whole .held-8;
             objects-32 = h .whole .objects-32;
             some-object = h .whole .some-object;
             first-class = h .whole .first-class;
             object-class = h .whole .object-class;
             one-holder = h .whole .one-holder;
+            worded = h .whole .worded;
             field-holds = h .whole .field-holds;
           };
           thread = λ j l. go j l (ℕ-discrete j i);
@@ -97,20 +99,25 @@ module _ (P : Typed) where
         record {
           whole = record {
             threads-8 = h .whole .threads-8;
-            counts-256 = length-set (s .counts) (i * 32 + o) n ∙ h .whole .counts-256;
+            counts-256 = counted-sized s sized i o n .counts-256;
             classes-32 = h .whole .classes-32;
             fields-128 = h .whole .fields-128;
+            held-8 = counted-sized s sized i o n .held-8;
             objects-32 = h .whole .objects-32;
             some-object = h .whole .some-object;
             first-class = h .whole .first-class;
             object-class = h .whole .object-class;
             one-holder = λ j k p lj lk lp x z. sole j k p lj lk lp x z (ℕ-discrete p o) (ℕ-discrete j i) (ℕ-discrete k i);
+            worded = words-written s (h .whole .worded) sized i o n li lo;
             field-holds = h .whole .field-holds;
           };
           thread = λ j l n′. standing-more (s .objects) (classOf s) (countOf (s .counts) j) (s .objects) (classOf s) _ (threadAt s j) (omega arith) (λ r _. refl)
               (λ p lp. count-other j o p n lo lp (λ q. absurd (n′ q))) (h .thread j l n′);
         }
       where
+        sized : Sized s
+        sized = record { counts-256 = h .whole .counts-256; held-8 = h .whole .held-8 }
+
         sole : (j k p : ℕ) → j < 8 → k < 8 → p < 32 → j ≢ k → 0 < countOf (set (s .counts) (i * 32 + o) n) j p → Dec (p ≡ o) → Dec (j ≡ i) → Dec (k ≡ i)
             → countOf (set (s .counts) (i * 32 + o) n) k p ≡ 0
         sole j k p lj lk lp x z (no d) e g =
@@ -137,11 +144,13 @@ module _ (P : Typed) where
             counts-256 = h .whole .counts-256;
             classes-32 = length-set (s .classes) (s .objects) c ∙ h .whole .classes-32;
             fields-128 = fields-length (s .fields) (s .objects) first ∙ h .whole .fields-128;
+            held-8 = h .whole .held-8;
             objects-32 = omega arith;
             some-object = omega arith;
             first-class = older 0 (h .whole .some-object) ∙ h .whole .first-class;
             object-class = λ o l. class o l (ℕ-discrete o (s .objects));
             one-holder = h .whole .one-holder;
+            worded = h .whole .worded;
             field-holds = field;
           };
           thread = λ j l n. standing-more (s .objects) (classOf s) (countOf (s .counts) j) (s .objects + 1) (classOf (grown s c first)) (countOf (s .counts) j) (threadAt s j) (omega arith)
@@ -185,11 +194,13 @@ module _ (P : Typed) where
             counts-256 = h .whole .counts-256;
             classes-32 = h .whole .classes-32;
             fields-128 = length-set (s .fields) (o * 4 + f) x ∙ h .whole .fields-128;
+            held-8 = h .whole .held-8;
             objects-32 = h .whole .objects-32;
             some-object = h .whole .some-object;
             first-class = h .whole .first-class;
             object-class = h .whole .object-class;
             one-holder = h .whole .one-holder;
+            worded = h .whole .worded;
             field-holds = field;
           };
           thread = h .thread;

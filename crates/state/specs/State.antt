@@ -1,10 +1,11 @@
--- Document 01, the machine: eight thread numbers, 32 objects, one count for each thread and each object; and four field places for each object (document 02, Q-8).
+-- Document 01, the machine: eight thread numbers, 32 objects, one count for each thread and each object; four field places for each object (document 02, Q-8); and a 32-bit word for each thread beside its counts (Q-4).
 use mathlib.Core.Bool.{Bool, cond, not, _||_}
 use mathlib.Core.List.{List}
 use Prim.Native.Nat.{ℕ, _+_, _*_}
 use lib.Dec.{ltb, eqb}
 use lib.ListN.{getD, set, replicate}
 use Rattle.ground.specs.Bounded.{allBelow, firstBelow}
+use Rattle.held.specs.Word.{marked}
 use Rattle.values.specs.Values.{zeroSlot}
 use Rattle.values.specs.declared.Slot.{Slot}
 use Rattle.threads.specs.declared.Thread.{Thread}
@@ -23,17 +24,30 @@ abbrev pub classOf : State → ℕ → ℕ
 classOf s o = getD (s .classes) o 0
 
 abbrev pub withThread : State → ℕ → Thread → State
-withThread s i t = record { threads = set (s .threads) i t; counts = s .counts; objects = s .objects; classes = s .classes; fields = s .fields }
+withThread s i t = record { threads = set (s .threads) i t; counts = s .counts; objects = s .objects; classes = s .classes; fields = s .fields; held = s .held }
 
+-- thread i's held word
+abbrev pub wordOf : List ℕ → ℕ → ℕ
+wordOf held i = getD held i 0
+
+-- thread i's count of object o, below 32, becomes n, and bit o of its word goes with it (document 02, Q-4)
 abbrev pub withCount : State → ℕ → ℕ → ℕ → State
-withCount s i o n = record { threads = s .threads; counts = set (s .counts) (i * 32 + o) n; objects = s .objects; classes = s .classes; fields = s .fields }
+withCount s i o n =
+    record {
+      threads = s .threads;
+      counts = set (s .counts) (i * 32 + o) n;
+      objects = s .objects;
+      classes = s .classes;
+      fields = s .fields;
+      held = set (s .held) i (marked (wordOf (s .held) i) o n);
+    }
 
 -- the field places stand in one flat array, four for each object: field f of object o
 abbrev pub fieldOf : List Slot → ℕ → ℕ → Slot
 fieldOf fields o f = getD fields (o * 4 + f) zeroSlot
 
 abbrev pub withField : State → ℕ → ℕ → Slot → State
-withField s o f x = record { threads = s .threads; counts = s .counts; objects = s .objects; classes = s .classes; fields = set (s .fields) (o * 4 + f) x }
+withField s o f x = record { threads = s .threads; counts = s .counts; objects = s .objects; classes = s .classes; fields = set (s .fields) (o * 4 + f) x; held = s .held }
 
 -- object o's four field places hold what `first` does
 unfoldable pub fieldsWith : List Slot → ℕ → List Slot → List Slot
@@ -50,12 +64,13 @@ withObject s c first =
       objects = s .objects + 1;
       classes = set (s .classes) (s .objects) c;
       fields = fieldsWith (s .fields) (s .objects) first;
+      held = s .held;
     })
     s
 
 -- no live thread, no object, and all else 0
 abbrev pub emptyState : State
-emptyState = record { threads = replicate 8 idle; counts = replicate 256 0; objects = 0; classes = replicate 32 0; fields = replicate 128 zeroSlot }
+emptyState = record { threads = replicate 8 idle; counts = replicate 256 0; objects = 0; classes = replicate 32 0; fields = replicate 128 zeroSlot; held = replicate 8 0 }
 
 -- thread j is i itself, or its count of o is 0
 abbrev pub freeOf : List ℕ → ℕ → ℕ → ℕ → Bool

@@ -1,4 +1,4 @@
-// The machine's state: eight thread numbers, 32 objects, one count for each thread and each object, four field places for each object.
+// The machine's state: eight thread numbers, 32 objects, one count for each thread and each object, a held word for each thread, four field places for each object.
 ghost use mathlib.Core.Path.{_≡_};
 ghost use Rattle.state.specs.State.{threadAt, countOf, withThread, withCount, withField, withObject, emptyState, freeOf, othersFree, isFree, holdsNothing, lowestFree};
 use threads::Thread;
@@ -10,6 +10,7 @@ pub struct State {
     pub objects: u8,
     pub classes: [u8; 32],
     pub fields: [Slot; 128],
+    pub held: [u32; 8],
 }
 
 pub fn empty_state() -> State
@@ -23,6 +24,7 @@ pub fn empty_state() -> State
         objects: 0,
         classes: [0u8; 32],
         fields: [z; 128],
+        held: [0u32; 8],
     }
 }
 
@@ -52,13 +54,16 @@ pub fn put_thread(s: State, i: u8, t: Thread) -> State
     next
 }
 
+// The one writer of counts and of held words.
 pub fn put_count(s: State, i: u8, o: u8, n: u16) -> State
     ensures { λ r. ⌜ r ≡ withCount s i o n ⌝ }
 {
     let mut next = s;
-    let k = (i as usize) * 32 + (o as usize);
+    let j = i as usize;
+    let k = j * 32 + (o as usize);
     if k < 256 {
         next.counts[k] = n;
+        next.held[j] = held::mark(next.held[j], o, n);
         return next;
     }
     next

@@ -50,6 +50,15 @@ fn same_counts(a: [u16; 256], b: [u16; 256]) -> bool {
     true
 }
 
+fn same_words(a: [u32; 8], b: [u32; 8]) -> bool {
+    for i in 0..8usize {
+        if a[i] != b[i] {
+            return false;
+        }
+    }
+    true
+}
+
 fn same_fields(a: [Slot; 128], b: [Slot; 128]) -> bool {
     for i in 0..128usize {
         if !same_value(a[i], b[i]) {
@@ -64,9 +73,12 @@ pub(crate) fn same_state(a: State, b: State) -> bool {
     let b_counts = b.counts;
     let a_fields = a.fields;
     let b_fields = b.fields;
+    let a_held = a.held;
+    let b_held = b.held;
     same_threads(a, b)
         & same_counts(a_counts, b_counts)
         & same_fields(a_fields, b_fields)
+        & same_words(a_held, b_held)
         & (a.objects == b.objects)
         & words::same(&a.classes, &b.classes)
 }

@@ -1,6 +1,6 @@
 // The form of every step, and a step read by its form. A form is a capital, which tells what the step does, and a letter for each number:
 //
-//   b up to 255, w up to 65,535, f up to 3, t up to 7, p up to 15, n up to 31, o an opcode or its name, d an end, i an integer of 32 bits;
+//   b up to 255, w up to 65,535, f up to 3, t up to 7, p up to 15, n up to 31, u up to 4,294,967,295, o an opcode or its name, d an end, i an integer of 32 bits;
 //   h is w as its two bytes; c and a are b and h that may be left out at the end of a step, and are 0 then;
 //   a digit is that number itself, and a capital its own byte; e is an entry, v a value: a word and its numbers, which end the step.
 //
@@ -10,9 +10,9 @@
 //   I an instruction of `bench` or `yard`: address, the bytes; K a part of its row: address, which entry, place in the row, the bytes;
 //   D the same of the stack: the depth then ends with it;
 //   T a thread: number, live, class, address, depth; V variables and P stack places: thread, which, one (1) or all (0), value;
-//   N a count, O the number of objects, C the class of an object, H a field place: object, field, value;
+//   N a count, L a held word, O the number of objects, C the class of an object, H a field place: object, field, value;
 //   M steps: thread, new fails, how many; F the fresh machine;
-//   and what is wanted: S a verdict on the structure, J the verifier's, Q a record, G what the machine gives.
+//   and what is wanted: S a verdict on the structure, J the verifier's, Q a record, G what the machine gives, A how many objects a thread holds.
 use crate::numbers;
 use crate::numbers::NONE;
 use crate::words;
@@ -146,6 +146,7 @@ locals Vt00v
 place Ptp1v
 places Pt00v
 count Ntnw
+held Ltu
 objects Ob
 class Cnb
 field Hnfv
@@ -157,6 +158,7 @@ verdict Sbbw
 judge Jbbwb
 record Qbwb
 gives Gb
+holds Abbb
 ",
         w,
     );

@@ -95,6 +95,7 @@ pub(crate) fn number(letter: u8, w: &[u8]) -> u64 {
         b'w' | b'h' => within(decimal(w), 65535),
         b'c' => or_zero(w, 255),
         b'a' => or_zero(w, 65535),
+        b'u' => decimal(w),
         b'd' => above(w, 64, 191),
         b'i' => integer(w),
         b'o' => opcode(w),

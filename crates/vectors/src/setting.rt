@@ -65,7 +65,7 @@ fn act(p: Setting, b: &mut Buffer, r: Step) -> Setting {
 }
 
 fn is_wanted(of: u8) -> bool {
-    (of == b'S') | (of == b'J') | (of == b'Q') | (of == b'G')
+    (of == b'S') | (of == b'J') | (of == b'Q') | (of == b'G') | (of == b'A')
 }
 
 pub(crate) fn step(p: Setting, b: &mut Buffer, s: &[u8], name: &[u8]) -> Setting {
@@ -86,6 +86,7 @@ fn met(p: Setting, b: &[u8], r: Step, name: &[u8]) -> bool {
         b'S' => wants::verdict(name, structure::structure(b), v),
         b'J' => wants::verdict(name, verifier::verify(b), v),
         b'Q' => wants::record(name, b, v),
+        b'A' => wants::holds(name, b, p.state, v),
         _ => wants::stepped(name, p.came, p.state, v),
     }
 }

@@ -25,6 +25,7 @@ pub(crate) fn blank() -> State {
         objects: 1,
         classes: [0u8; 32],
         fields: [zero; 128],
+        held: [0u32; 8],
     }
 }
 
@@ -35,6 +36,27 @@ fn value(kind: u32, n: u32) -> Slot {
         2 => values::null_slot(),
         _ => values::int_slot(n),
     }
+}
+
+// The word that a thread's counts come to, worked out count by count, so that the machine's own is held against something else.
+fn word_of(counts: [u16; 256], i: u8) -> u32 {
+    let mut w: u32 = 0;
+    for o in 0..32u8 {
+        if 0 < state::count(&counts, i, o) {
+            w = w | (1u32 << (o as u32));
+        }
+    }
+    w
+}
+
+// A count, and the word beside it.
+fn with_count(s: State, i: u8, o: u8, n: u16) -> State {
+    let mut next = s;
+    let k = (i % 8) as usize;
+    next.counts[k * 32 + (o % 32) as usize] = n;
+    let counts = next.counts;
+    next.held[k] = word_of(counts, i);
+    next
 }
 
 // One of the places, or all, as a step's numbers from the second on say.
@@ -88,7 +110,11 @@ pub(crate) fn put(s: State, of: u8, v: [u32; 16]) -> State {
     let o = (i % 32) as usize;
     let second = byte(v[1]);
     match of {
-        b'N' => state::put_count(s, i, second, (v[2] % 65536) as u16),
+        b'N' => with_count(s, i, second, (v[2] % 65536) as u16),
+        b'L' => {
+            next.held[(i % 8) as usize] = v[1];
+            next
+        }
         b'O' => {
             next.objects = i;
             next

@@ -47,6 +47,16 @@ pub(crate) fn record(name: &[u8], b: &[u8], v: [u32; 16]) -> bool {
     )
 }
 
+// The thread, the answer to the question how many objects it holds, and the number.
+pub(crate) fn holds(name: &[u8], b: &[u8], s: State, v: [u32; 16]) -> bool {
+    let got = holding::held(b, s, (v[0] % 256) as u8);
+    is(
+        name,
+        [got.answer as u32, got.number as u32, 0, 0],
+        [v[1], v[2], 0, 0],
+    )
+}
+
 // The answer, and the state in every place.
 pub(crate) fn stepped(name: &[u8], got: Stepped, s: State, v: [u32; 16]) -> bool {
     if !is(name, [got.answer as u32, 0, 0, 0], [v[0], 0, 0, 0]) {

@@ -1,22 +1,25 @@
 use Prim.Native.Nat.{_≤_, _-_}
-use mathlib.Core.Path.{_≡_}
-use mathlib.Core.Bool.{true}
-use Rattle.ground.specs.Bounded.{allBelow}
-use Rattle.ground.proofs.Bounded.{all-zero, all-more, all-stop, all-done}
-use Rattle.ground.proofs.Bools.{passed, failed, and-false}
+use mathlib.Core.Path.{_≡_, sym, _∙_}
+use mathlib.Core.Bool.{true, _&&_}
 use lib.ListN.{length}
 use native.Mathlib.Omega.{arith}
+use Rattle.ground.specs.Bounded.{allBelow}
+use Rattle.ground.proofs.Bounded.{all-zero, all-more, all-stop, all-done}
+use Rattle.ground.proofs.Bools.{passed, failed, and-fst, and-snd, and-false}
 use Rattle.ground.proofs.Writes.{read-any}
 use Rattle.threads.proofs.Places.{length-mapped}
 use Rattle.threads.specs.Threads.{idle}
 use Rattle.bundle.specs.Program.{programOf}
-use Rattle.belongs.specs.Belongs.{stateOk, threadsOk, threadOkAt, countsOk, threadCountsOkAt}
+use Rattle.belongs.specs.Belongs.{stateOk, threadsOk, threadOkAt, countsOk, threadCountsOkAt, wordsAgree, wordAgreesAt}
+use Rattle.belongs.proofs.Belongs.{objects-elim, counts-elim, words-elim}
+use Rattle.belongs.proofs.Words.{thread-stop, apart-sole}
 use borrow.Author.Needs.{needs}
 use Rattle.belongs.proofs.state_ok.Statement.{statement}
 use Rattle.belongs.proofs.state_ok.Tie as tie
 
 abbrev Inv-loop : tie.InvT-loop
-Inv-loop b s i₀ i = (i ≤ 8) × (allBelow i (threadOkAt (programOf b) s) ≡ true) × (allBelow i (threadCountsOkAt s) ≡ true)
+Inv-loop b s i₀ i =
+    (i ≤ 8) × (allBelow i (threadOkAt (programOf b) s) ≡ true) × (allBelow i (threadCountsOkAt s) ≡ true) × (allBelow i (wordAgreesAt s) ≡ true)
 
 abbrev μ-loop : tie.MeasureT-loop
 μ-loop b s i₀ i = 8 - i
@@ -28,24 +31,15 @@ returns : tie.Need-returns Inv-loop μ-loop
 unfolding stateOk
 returns c = rw (failed (c .before .objects-ok .ensures) (c .if1 .taken))
 
-sole-holders-requires : tie.Need-sole-holders-requires Inv-loop μ-loop
-sole-holders-requires c κs = search needs
-
-returns-2 : tie.Need-returns-2 Inv-loop μ-loop
-unfolding stateOk
-returns-2 c =
-    rw (passed (c .before .before .before .before .before .before .objects-ok .ensures) (c .before .before .before .before .before .if1 .left), failed (c .before .sole-holders .ensures) (c .if2 .taken), and-false)
-
 fields-ok-requires : tie.Need-fields-ok-requires Inv-loop μ-loop
 fields-ok-requires c κs = search needs
 
-returns-3 : tie.Need-returns-3 Inv-loop μ-loop
+returns-2 : tie.Need-returns-2 Inv-loop μ-loop
 unfolding stateOk
-returns-3 c =
-    rw (passed (c .before .before .before .before .before .before .before .before .before .before .before .before .objects-ok .ensures) (c .before .before .before .before .before .before .before .before .before .before .before .if1 .left), passed (c .before .before .before .before .before .before .before .sole-holders .ensures) (c .before .before .before .before .before .before .if2 .left), failed (c .before .fields-ok .ensures) (c .if3 .taken), and-false)
+returns-2 c = rw (failed (c .before .fields-ok .ensures) (c .if2 .taken), and-false)
 
 loop-holds : tie.Need-loop-holds Inv-loop μ-loop
-loop-holds c = (search needs, all-zero _, all-zero _)
+loop-holds c = (search needs, all-zero _, all-zero _, all-zero _)
 
 cast-k : tie.Need-cast-k Inv-loop μ-loop
 cast-k c = search needs
@@ -56,34 +50,36 @@ mul-t c = search needs
 element-copy-out-t : tie.Need-element-copy-out-t Inv-loop μ-loop
 element-copy-out-t c = search needs
 
+mul-w : tie.Need-mul-w Inv-loop μ-loop
+mul-w c = search needs
+
+element-copy-out-w : tie.Need-element-copy-out-w Inv-loop μ-loop
+element-copy-out-w c = search needs
+
 thread-ok-requires : tie.Need-thread-ok-requires Inv-loop μ-loop
 thread-ok-requires c κs = search needs
 
-returns-4 : tie.Need-returns-4 Inv-loop μ-loop
+returns-3 : tie.Need-returns-3 Inv-loop μ-loop
 unfolding stateOk threadsOk
-returns-4 c =
-    let s = c .before .before .before .before .before .before .before .before .before .before .before .before .before .before .before .before .before .before .before .before .before .before .args .t2 in
-    let l : length (s .threads) ≡ 8 = search (needs, length-mapped) in
-    let e = read-any (s .threads) (c .before .before .before .before .loop .i) idle _ (omega arith) in
+returns-3 c =
+    let a = c .before .before .before .before .before .before .before .before .before .before .before .before .before .before .before .before .before .before .args in
+    let l : length (a .t2 .threads) ≡ 8 = search (needs, length-mapped) in
+    let e = read-any (a .t2 .threads) (c .before .before .before .before .before .loop .i) idle _ (omega arith) in
     rw (
-      passed (c .before .before .before .before .before .before .before .before .before .before .before .before .before .before .before .before .before .objects-ok .ensures) (c .before .before .before .before .before .before .before .before .before .before .before .before .before .before .before .before .if1 .left),
-      all-stop (threadOkAt (programOf (c .before .before .before .before .before .before .before .before .before .before .before .before .before .before .before .before .before .before .before .before .before .before .args .b .now)) s) 8 (c .before .before .before .before .loop .i) (c .before .before .before .loop-test .taken) (rw e (failed (c .before .thread-ok .ensures) (c .if4 .taken))),
-    )
-
-thread-counts-ok-requires : tie.Need-thread-counts-ok-requires Inv-loop μ-loop
-thread-counts-ok-requires c κs = search needs
-
-returns-5 : tie.Need-returns-5 Inv-loop μ-loop
-unfolding stateOk countsOk
-returns-5 c =
-    let s = c .before .before .before .before .before .before .before .before .before .before .before .before .before .before .before .before .before .before .before .before .before .before .before .before .before .before .before .args .t2 in
-    let l : length (s .threads) ≡ 8 = search (needs, length-mapped) in
-    let e = read-any (s .threads) (c .before .before .before .before .before .before .before .before .before .loop .i) idle _ (omega arith) in
-    rw (
-      passed (c .before .before .before .before .before .before .before .before .before .before .before .before .before .before .before .before .before .before .before .before .before .before .objects-ok .ensures) (c .before .before .before .before .before .before .before .before .before .before .before .before .before .before .before .before .before .before .before .before .before .if1 .left),
-      all-stop (threadCountsOkAt s) 8 (c .before .before .before .before .before .before .before .before .before .loop .i) (c .before .before .before .before .before .before .before .before .loop-test .taken) (rw e (failed (c .before .thread-counts-ok .ensures) (c .if5 .taken))),
+      all-stop (threadOkAt (programOf (a .b .now)) (a .t2)) 8 (c .before .before .before .before .before .loop .i) (c .before .before .before .before .loop-test .taken) (rw e (failed (c .before .thread-ok .ensures) (c .if3 .taken))),
       and-false,
     )
+
+thread-held-ok-requires : tie.Need-thread-held-ok-requires Inv-loop μ-loop
+thread-held-ok-requires c κs = search needs
+
+returns-4 : tie.Need-returns-4 Inv-loop μ-loop
+unfolding stateOk
+returns-4 c =
+    let s = c .before .before .before .before .before .before .before .before .before .before .before .before .before .before .before .before .before .before .before .before .before .before .before .args .t2 in
+    let l : length (s .threads) ≡ 8 = search (needs, length-mapped) in
+    let e = read-any (s .threads) (c .before .before .before .before .before .before .before .before .before .before .loop .i) idle _ (omega arith) in
+    rw (thread-stop s _ (c .before .before .before .before .before .before .before .before .before .before .loop .i) (c .before .before .before .before .before .before .before .before .before .loop-test .taken) (rw e (failed (c .before .thread-held-ok .ensures) (c .if4 .taken))))
 
 add-i : tie.Need-add-i Inv-loop μ-loop
 add-i c = search needs
@@ -93,24 +89,36 @@ loop-less c = search needs
 
 loop-again : tie.Need-loop-again Inv-loop μ-loop
 loop-again c =
-    let s = c .before .before .before .before .before .before .before .before .before .before .before .before .before .before .before .before .before .before .before .before .before .before .before .before .before .before .before .args .t2 in
+    let s = c .before .before .before .before .before .before .before .before .before .before .before .before .before .before .before .before .before .before .before .before .before .before .before .args .t2 in
     let l : length (s .threads) ≡ 8 = search (needs, length-mapped) in
-    let e = read-any (s .threads) (c .before .before .before .before .before .before .before .before .before .loop .i) idle _ (omega arith) in (
+    let e = read-any (s .threads) (c .before .before .before .before .before .before .before .before .before .before .loop .i) idle _ (omega arith) in
+    let i = c .before .before .before .before .before .before .before .before .before .before .loop .i in
+    let both : (threadCountsOkAt s i && wordAgreesAt s i) ≡ true = rw e (passed (c .before .thread-held-ok .ensures) (c .if4 .left)) in (
       omega arith,
-      all-more _ _ (c .before .before .before .before .before .before .before .before .before .loop .inv .1) (rw e (passed (c .before .before .before .before .before .before .thread-ok .ensures) (c .before .before .before .before .before .if4 .left))),
-      all-more _ _ (c .before .before .before .before .before .before .before .before .before .loop .inv .2) (rw e (passed (c .before .thread-counts-ok .ensures) (c .if5 .left))),
+      all-more _ _ (c .before .before .before .before .before .before .before .before .before .before .loop .inv .1) (rw e (passed (c .before .before .before .before .before .before .thread-ok .ensures) (c .before .before .before .before .before .if3 .left))),
+      all-more _ _ (c .before .before .before .before .before .before .before .before .before .before .loop .inv .2) (and-fst (threadCountsOkAt s i) (wordAgreesAt s i) both),
+      all-more _ _ (c .before .before .before .before .before .before .before .before .before .before .loop .inv .3) (and-snd (threadCountsOkAt s i) (wordAgreesAt s i) both),
     )
 
-returns-6 : tie.Need-returns-6 Inv-loop μ-loop
-unfolding stateOk threadsOk countsOk
-returns-6 c =
+bits-apart-requires : tie.Need-bits-apart-requires Inv-loop μ-loop
+bits-apart-requires c κs = search needs
+
+returns-5 : tie.Need-returns-5 Inv-loop μ-loop
+unfolding stateOk threadsOk countsOk wordsAgree
+returns-5 c =
+    let a = c .before .before .before .before .before .before .before .before .before .before .before .before .before .before .before .before .args in
+    let turn = c .before .before .before .loop in
+    let objects = passed (c .before .before .before .before .before .before .before .before .before .before .before .objects-ok .ensures) (c .before .before .before .before .before .before .before .before .before .before .if1 .left) in
+    let counts = all-done _ 8 _ (turn .inv .0) (c .before .before .loop-test .left) (turn .inv .2) in
+    let words = all-done _ 8 _ (turn .inv .0) (c .before .before .loop-test .left) (turn .inv .3) in
     rw (
-      passed (c .before .before .before .before .before .before .before .before .before .before .before .before .before .before .objects-ok .ensures) (c .before .before .before .before .before .before .before .before .before .before .before .before .before .if1 .left),
-      ← all-done _ 8 _ (c .before .loop .inv .0) (c .loop-test .left) (c .before .loop .inv .1),
-      ← all-done _ 8 _ (c .before .loop .inv .0) (c .loop-test .left) (c .before .loop .inv .2),
-      passed (c .before .before .before .before .before .before .before .before .before .sole-holders .ensures) (c .before .before .before .before .before .before .before .before .if2 .left),
-      passed (c .before .before .before .fields-ok .ensures) (c .before .before .if3 .left),
+      objects,
+      passed (c .before .before .before .before .before .fields-ok .ensures) (c .before .before .before .before .if2 .left),
+      ← all-done _ 8 _ (turn .inv .0) (c .before .before .loop-test .left) (turn .inv .1),
+      ← counts,
+      ← words,
     )
+    (c .bits-apart .ensures ∙ apart-sole (a .t2) (words-elim (programOf (a .b .now)) (a .t2) (sym words)) (objects-elim (programOf (a .b .now)) (a .t2) objects) (counts-elim (programOf (a .b .now)) (a .t2) (sym counts)))
 
 pub state-ok-spec : {M : Type 1} → statement M
 state-ok-spec =
@@ -120,19 +128,20 @@ state-ok-spec =
     μ-loop
     objects-ok-requires
     returns
-    sole-holders-requires
-    returns-2
     fields-ok-requires
-    returns-3
+    returns-2
     loop-holds
     cast-k
     mul-t
     element-copy-out-t
+    mul-w
+    element-copy-out-w
     thread-ok-requires
+    returns-3
+    thread-held-ok-requires
     returns-4
-    thread-counts-ok-requires
-    returns-5
     add-i
     loop-less
     loop-again
-    returns-6)
+    bits-apart-requires
+    returns-5)

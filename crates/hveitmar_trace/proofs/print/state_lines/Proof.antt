@@ -15,6 +15,15 @@ abbrev μ-loop : tie.MeasureT-loop
 loop-holds : tie.Need-loop-holds Inv-loop μ-loop
 loop-holds c = search needs
 
+cast-held : tie.Need-cast-held Inv-loop μ-loop
+cast-held c = search needs
+
+mul-held : tie.Need-mul-held Inv-loop μ-loop
+mul-held c = search needs
+
+element-copy-out-held : tie.Need-element-copy-out-held Inv-loop μ-loop
+element-copy-out-held c = search needs
+
 thread-requires : tie.Need-thread-requires Inv-loop μ-loop
 thread-requires c κs = search needs
 
@@ -49,6 +58,9 @@ state-lines-spec =
     Inv-loop
     μ-loop
     loop-holds
+    cast-held
+    mul-held
+    element-copy-out-held
     thread-requires
     thread-line-requires
     add-i

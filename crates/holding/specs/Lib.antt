@@ -1,0 +1,2 @@
+pub mod Question
+pub mod Kept
