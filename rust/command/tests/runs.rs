@@ -102,13 +102,13 @@ fn a_trace_tells_of_null() {
     let told = "\
 -: accepted classes 1
 
-step  thread  class  address  instruction                object  answer
-1     0       0      1        new 0                      1       0 went on
-2     0       0      2        getfield C0.0              1       0 went on
-3     0       0      3        store 0                    null    0 went on
-4     0       0      4        monitorenter 0, handler 7  null    0 went on
-5     0       0      7        pop                        0       0 went on
-6     0       0      8        return                     -       1 ended by return
+step  thread  class  address  instruction                object  holds  answer
+1     0       0      1        new 0                      1       0      0 went on
+2     0       0      2        getfield C0.0              1       0      0 went on
+3     0       0      3        store 0                    null    0      0 went on
+4     0       0      4        monitorenter 0, handler 7  null    0      0 went on
+5     0       0      7        pop                        0       0      0 went on
+6     0       0      8        return                     -       -      1 ended by return
 
 no thread lives
 ";
@@ -116,4 +116,64 @@ no thread lives
     let shown = tool(&["show", "-"], &bundle).out;
     assert!(shown.contains("class 0: arguments none, fields C0, variables 1, stack 1"));
     assert!(shown.contains("monitorenter 0, handler 7  C0?"));
+}
+
+/// Two locks, the second taken twice, and all given back.
+fn two_locks() -> Vec<u8> {
+    let [v, w] = [Var(0), Var(1)];
+    let (top, free) = (Entry::Top, Entry::fresh(0));
+    let held = |times: i16| Entry::reference(0, times, -times);
+    let row = |first, second| Row::new(&[first, second], &[]);
+    let lines = [
+        (Instr::New(0, None), row(top, top)),
+        (Instr::Store(v), Row::new(&[top, top], &[free])),
+        (Instr::New(0, None), row(free, top)),
+        (Instr::Store(w), Row::new(&[free, top], &[free])),
+        (Instr::Enter(v, None), row(free, free)),
+        (Instr::Enter(w, None), row(held(1), free)),
+        (Instr::Enter(w, None), row(held(1), held(1))),
+        (Instr::Exit(v), row(held(1), held(2))),
+        (Instr::Exit(w), row(free, held(2))),
+        (Instr::Exit(w), row(free, held(1))),
+        (Instr::Return, row(free, free)),
+    ];
+    let (code, rows) = lines.into_iter().unzip();
+    lay_out(&[Method {
+        variables: 2,
+        stack_limit: 1,
+        code,
+        rows,
+        ..Method::default()
+    }])
+}
+
+#[test]
+fn a_trace_tells_how_many_objects_are_held() {
+    let bundle = two_locks();
+    let trace = |steps: usize| {
+        let words = [vec!["trace", "-"], vec!["0"; steps]].concat();
+        let told = tool(&words, &bundle).out;
+        let blocks: Vec<&str> = told.split("\n\n").collect();
+        (blocks[1].to_string(), blocks[2].to_string())
+    };
+    let at = |address: u16| format!("thread 0 at address {address} of class 0 holds");
+    let told = [
+        (0, format!("{} nothing\n", at(1))),
+        (5, format!("{} 1 object: object 1 once\n", at(6))),
+        (
+            7,
+            format!("{} 2 objects: object 1 once, object 2 2 times\n", at(8)),
+        ),
+        (8, format!("{} 1 object: object 2 2 times\n", at(9))),
+        (11, "no thread lives\n".to_string()),
+    ];
+    for (steps, line) in told {
+        assert_eq!(trace(steps).1, line, "{steps} steps");
+    }
+    let (table, _) = trace(11);
+    let column = table.find("holds").expect("the column");
+    let lines = table.lines().skip(1);
+    let holds: Vec<&str> = lines.map(|line| &line[column..column + 1]).collect();
+    let wanted = ["0", "0", "0", "0", "1", "2", "2", "1", "1", "0", "-"];
+    assert_eq!(holds, wanted);
 }

@@ -2,6 +2,7 @@
 
 mod differences;
 pub mod digest;
+pub mod holdings;
 pub mod order;
 mod places;
 pub mod proved;
@@ -13,6 +14,7 @@ pub mod texts;
 pub mod traces;
 pub mod verdicts;
 pub mod whys;
+mod words;
 
 pub use differences::Differences;
 

@@ -16,6 +16,16 @@ pub fn verdict(bundle: &[u8]) -> Verdict {
     }
 }
 
+/// How many objects a thread holds, by the proved machine: its answer and the
+/// number. None where the bytes are no state.
+pub fn held(bundle: &[u8], state: &[u8], thread: u8) -> Option<(u8, u8)> {
+    match hveitmar::held(bundle, state, thread) {
+        hveitmar::Held::Objects(number) => Some((0, number)),
+        hveitmar::Held::Refused(answer) => Some((answer.number(), 0)),
+        hveitmar::Held::NoState => None,
+    }
+}
+
 /// The proved reader's answer.
 pub fn usage(text: &[u8]) -> Answer {
     match hveitmar::usage(text) {

@@ -1,6 +1,7 @@
 //! The trace program's whole output held against the reference's: every
 //! answer and the state at the end, from the fresh state and from any other.
 
+use crate::words::WrongWords;
 use crate::{Answers, Differences, Part};
 use generator::families::{self, typed};
 use generator::lively::Lively;
@@ -17,6 +18,8 @@ pub struct Traces {
     given: u64,
     bad: u64,
     answers: Answers,
+    /// Of given states.
+    words: WrongWords,
     differences: Differences,
 }
 
@@ -36,7 +39,10 @@ impl Traces {
             self.bad += 1;
             return BAD_INPUT.to_string();
         };
-        self.given += u64::from(input.start.is_some());
+        if let Some(state) = &input.start {
+            self.given += 1;
+            self.words.add(input.bundle, state);
+        }
         let output = follow(&input);
         for step in &output.steps {
             self.answers.add(step.answer);
@@ -67,8 +73,12 @@ impl Part for Traces {
             self.inputs, self.given, self.bad
         );
         println!("  steps by answer: {}", self.answers.text());
+        for (what, count) in self.words.seen_by_thread() {
+            println!("  {what}: {count}");
+        }
         println!("  differences: {}", self.differences.0);
     }
+
     fn differences(&self) -> u64 {
         self.differences.0
     }
@@ -77,6 +87,7 @@ impl Part for Traces {
         let mut seen = self.answers.seen((0..=5).chain(11..=18));
         seen.push(("a given state".to_string(), self.given));
         seen.push(("bad input".to_string(), self.bad));
+        seen.extend(self.words.seen_by_thread());
         seen
     }
 }

@@ -4,11 +4,12 @@ use comparison::{digest, proved};
 use generator::builder::{case_a, lay_out, Method, Row};
 use generator::families::{self, sharing, typed};
 use generator::rng::Rng;
-use generator::schedule::schedule;
-use reference::bundle::{Addr, Instr, Verdict};
+use generator::schedule::{any_state, schedule};
+use reference::bundle::{Addr, Bundle, Instr, Verdict};
 use reference::entries::Entry;
-use reference::machine::fresh;
+use reference::machine::{fresh, step};
 use reference::slips::Slip;
+use trace::encode_state;
 
 #[test]
 fn cases_a_b_c_and_l() {
@@ -40,6 +41,25 @@ fn a_run_of_case_a() {
     assert_eq!(proved::digest(&bundle, &[0x80, 0]), 2 * 31 + 5);
     // No bundle: 17 from the fresh machine, and again from a step.
     assert_eq!(proved::digest(&[], &[0]), 17 * 31 + 17);
+}
+
+/// In case A object 1 is held from the third step to the sixth.
+#[test]
+fn held_in_a_run_of_case_a() {
+    let bundle = lay_out(&[case_a()]);
+    let (_, mut state) = fresh(&bundle);
+    for number in [0, 0, 1, 1, 1, 0] {
+        step(&bundle, &mut state, 0, false);
+        let bytes = encode_state(&state);
+        assert_eq!(proved::held(&bundle, &bytes, 0), Some((0, number)));
+        assert_eq!(proved::held(&bundle, &bytes, 1), Some((5, 0)));
+    }
+    state.held[7] = 1;
+    let bytes = encode_state(&state);
+    assert_eq!(proved::held(&bundle, &bytes, 0), Some((18, 0)));
+    assert_eq!(proved::held(&bundle, &bytes, 255), Some((18, 0)));
+    assert_eq!(proved::held(&[], &bytes, 255), Some((17, 0)));
+    assert_eq!(proved::held(&bundle, &bytes[1..], 0), None);
 }
 
 /// A failed new finds its handler, which drops what was thrown and returns.
@@ -78,20 +98,45 @@ fn a_slipped_verifier_differs_from_the_proved_one() {
     assert!(differing.iter().all(|&(_, n)| n >= 10), "{differing:?}");
 }
 
+/// Whether some answer of a run differs.
+fn runs_otherwise(slip: Slip, seed: u64) -> bool {
+    let mut rng = Rng::new(seed);
+    let b = match seed % 2 {
+        0 => typed::well_typed(&mut rng),
+        _ => sharing::sharing(&mut rng).lay_out(),
+    };
+    let turns = schedule(&b, &fresh(&b).1, seed, 100);
+    digest::of_slipped_run(&b, &turns, slip) != proved::digest(&b, &turns)
+}
+
+/// Whether a number of objects held differs.
+fn holds_otherwise(slip: Slip, seed: u64) -> bool {
+    let mut rng = Rng::new(seed);
+    let b = typed::well_typed(&mut rng);
+    let bundle = Bundle::open_with_code(&b).expect("it is accepted");
+    let state = any_state(&mut rng, &b);
+    let bytes = encode_state(&state);
+    (0..8).any(|thread| {
+        let proved = proved::held(&b, &bytes, thread);
+        proved != Some(slip.held(&bundle, &state, thread))
+    })
+}
+
 #[test]
 fn a_slipped_machine_differs_from_the_proved_one() {
     for slip in Slip::MACHINE {
-        let differing = (0..1_000)
-            .filter(|&seed| {
-                let mut rng = Rng::new(seed);
-                let b = match seed % 2 {
-                    0 => typed::well_typed(&mut rng),
-                    _ => sharing::sharing(&mut rng).lay_out(),
-                };
-                let turns = schedule(&b, &fresh(&b).1, seed, 100);
-                digest::of_slipped_run(&b, &turns, slip) != proved::digest(&b, &turns)
-            })
-            .count();
+        let differing = (0..1_000).filter(|&seed| runs_otherwise(slip, seed));
+        let differing = differing.count();
+        assert!(differing >= 10, "{slip:?}: {differing}");
+    }
+}
+
+#[test]
+fn a_slipped_word_differs_from_the_proved_one() {
+    for slip in Slip::WORDS {
+        let in_runs = (0..1_000).filter(|&seed| runs_otherwise(slip, seed));
+        let asked = (0..5_000).filter(|&seed| holds_otherwise(slip, seed));
+        let differing = in_runs.count() + asked.count();
         assert!(differing >= 10, "{slip:?}: {differing}");
     }
 }

@@ -8,3 +8,4 @@ pub mod marks;
 pub mod rng;
 pub mod schedule;
 pub mod texts;
+pub mod words;

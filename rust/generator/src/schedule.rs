@@ -1,12 +1,16 @@
 //! Random schedules, and random states to begin them from.
 
 use crate::rng::Rng;
+use crate::words::break_word;
 use reference::bundle::{Addr, Bundle, Class, Instr};
 use reference::entries::{kind, Entry};
 use reference::instructions::MAX_FIELDS;
 use reference::machine::step_in;
 use reference::state::{State, Thread, Value, MAX_COUNT, OBJECTS, OBJECT_0, PLACES, THREADS};
 use trace::Turn;
+
+/// All of four parts of the objects.
+const ALL: usize = 4;
 
 /// How a schedule treats its threads.
 #[derive(Clone, Debug)]
@@ -96,6 +100,7 @@ pub fn any_state(rng: &mut Rng, b: &[u8]) -> State {
         Ok(bundle) => valid_state(rng, &bundle),
         Err(_) => State {
             threads: [(); THREADS].map(|()| garbage_thread(rng)),
+            held: [(); THREADS].map(|()| rng.number() as u32),
             ..State::EMPTY
         },
     }
@@ -104,7 +109,7 @@ pub fn any_state(rng: &mut Rng, b: &[u8]) -> State {
 /// A state that is one of this bundle.
 pub fn valid_state(rng: &mut Rng, bundle: &Bundle) -> State {
     let mut state = State::EMPTY;
-    state.objects = rng.pick(&[1, 1, 2, 3, 8, 31, 32]);
+    state.objects = rng.pick(&[1, 1, 2, 3, 8, 31, 32, 32]);
     let garbage = rng.chance(1, 2);
     for (object, class) in state.classes.iter_mut().enumerate() {
         if object < usize::from(state.objects) {
@@ -132,6 +137,7 @@ pub fn valid_state(rng: &mut Rng, bundle: &Bundle) -> State {
             hold_next(rng, bundle, &mut state, t);
         }
     }
+    state.settle_words();
     state
 }
 
@@ -172,12 +178,16 @@ fn hold_next(rng: &mut Rng, bundle: &Bundle, state: &mut State, t: usize) {
     state.counts[rng.pick(&[t, holder]) * OBJECTS + usize::from(object)] = count;
 }
 
-/// Gives some objects a holder, its count often at an edge.
+/// Gives some objects a holder, its count often at an edge; at times one thread
+/// holds them all.
 fn hold_objects(rng: &mut Rng, state: &mut State) {
-    let live: Vec<usize> = (0..THREADS).filter(|&t| state.threads[t].live).collect();
-    let holding = rng.pick(&[0, 1, 2]);
+    let mut live: Vec<usize> = (0..THREADS).filter(|&t| state.threads[t].live).collect();
+    let holding = rng.pick(&[0, 1, 1, 2, 2, ALL]);
+    if holding == ALL && !live.is_empty() {
+        live = vec![rng.pick(&live)];
+    }
     for object in 0..usize::from(state.objects) {
-        if !live.is_empty() && rng.chance(holding, 4) {
+        if !live.is_empty() && rng.chance(holding, ALL) {
             let any = rng.between(1, 2_047) as u16;
             let count = rng.pick(&[1, 1, 2, MAX_COUNT - 1, MAX_COUNT, MAX_COUNT, any]);
             state.counts[rng.pick(&live) * OBJECTS + object] = count;
@@ -271,10 +281,10 @@ fn value_like(rng: &mut Rng, state: &State, raw: &[u8; 4]) -> Value {
 pub fn damaged_state(rng: &mut Rng, bundle: &Bundle) -> State {
     let mut state = valid_state(rng, bundle);
     let t = rng.below(THREADS);
-    if rng.chance(1, 2) {
-        break_thread(rng, bundle, &mut state, t);
-    } else {
-        break_objects(rng, bundle, &mut state, t);
+    match rng.below(3) {
+        0 => break_thread(rng, bundle, &mut state, t),
+        1 => break_objects(rng, bundle, &mut state, t),
+        _ => break_word(rng, &mut state),
     }
     state
 }
@@ -312,6 +322,8 @@ fn break_objects(rng: &mut Rng, bundle: &Bundle, state: &mut State, t: usize) {
         6 | 7 => break_field(rng, bundle, state),
         _ => state.counts[(t + 1) % THREADS * OBJECTS + object] = state.counts[at].max(1),
     }
+    // So that no count is refused for its word.
+    state.settle_words();
 }
 
 /// A field refers to no object: one that its class has, if there is any.

@@ -4,11 +4,13 @@ use generator::families::{self, contending, sharing, typed};
 use generator::lively::{FieldUse, Lively};
 use generator::marks::MARKS;
 use generator::rng::Rng;
-use generator::schedule::{valid_state, Scheduler};
+use generator::schedule::{damaged_state, valid_state, Scheduler};
+use generator::words::{WrongWord, MARKS as WORD_MARKS};
 use reference::belongs::belongs;
 use reference::bundle::Bundle;
 use reference::machine::{answer, fresh};
 use reference::slips::Slip;
+use reference::state::{OBJECTS, THREADS};
 use reference::verify::verify;
 
 #[test]
@@ -138,4 +140,37 @@ fn valid_states_belong() {
             );
         }
     }
+}
+
+#[test]
+fn every_wrong_word_comes_up() {
+    let mut marks = WORD_MARKS.map(|(name, _)| (name, 0));
+    for seed in 0..5_000 {
+        let mut rng = Rng::new(seed);
+        let b = typed::well_typed(&mut rng);
+        let bundle = Bundle::open_with_code(&b).expect("it is accepted");
+        let state = damaged_state(&mut rng, &bundle);
+        let Some(wrong) = WrongWord::alone(&bundle, &state) else {
+            continue;
+        };
+        assert!(!belongs(&bundle, &state), "seed {seed}");
+        for ((_, count), (_, has)) in marks.iter_mut().zip(WORD_MARKS) {
+            *count += usize::from(has(&wrong));
+        }
+    }
+    assert!(marks.iter().all(|&(_, count)| count >= 20), "{marks:?}");
+}
+
+#[test]
+fn valid_states_hold_any_number_of_objects() {
+    let mut numbers = [0; OBJECTS + 1];
+    for seed in 0..5_000 {
+        let mut rng = Rng::new(seed);
+        let b = typed::well_typed(&mut rng);
+        let bundle = Bundle::open_with_code(&b).expect("it is accepted");
+        let state = valid_state(&mut rng, &bundle);
+        (0..THREADS).for_each(|t| numbers[usize::from(state.number_held(t))] += 1);
+    }
+    let often = [0, 1, 2, 3, OBJECTS - 1, OBJECTS].map(|number| numbers[number]);
+    assert!(often.iter().all(|&count| count >= 50), "{numbers:?}");
 }

@@ -29,6 +29,14 @@ uint64_t hveitmar_answers(const uint8_t *bundle, size_t length, const uint8_t *t
    there is no such class, or the bundle draws one of the verdicts 1 to 6. */
 uint64_t hveitmar_record(const uint8_t *bundle, size_t length, uint8_t class_number);
 
+/* How many objects a thread holds in a state, told by its held word. A state is 2,537 bytes, as
+   the program hveitmar_trace takes it. HVEITMAR_NO_STATE is given where the bytes are none; else
+   hveitmar_held_answer and hveitmar_held_number take the number apart. */
+uint32_t hveitmar_held(const uint8_t *bundle, size_t length, const uint8_t *state, size_t state_length,
+                       uint8_t thread);
+
+#define HVEITMAR_NO_STATE UINT32_C(0xFFFF0000)
+
 /* Reads the usage in these bytes, such as L.L.(^L.0*^L.0). hveitmar_number, hveitmar_dip,
    hveitmar_end and hveitmar_reliable take the number apart. */
 uint64_t hveitmar_usage(const uint8_t *text, size_t length);
@@ -44,6 +52,12 @@ static inline unsigned hveitmar_address(uint64_t verdict) { return verdict >> 16
 
 /* Why a rule fails, 0 to 3; with every verdict but 9 it is 0. */
 static inline unsigned hveitmar_why(uint64_t verdict) { return (unsigned)(verdict >> 32); }
+
+/* 0, or refused as a step is: 17, 18 or 5. */
+static inline unsigned hveitmar_held_answer(uint32_t held) { return held >> 8; }
+
+/* How many objects, 0 to 32; of a refusal 0. */
+static inline unsigned hveitmar_held_number(uint32_t held) { return held & 0xFF; }
 
 /* How far below its present count a thread may go, 0 to 63; of a refusal 0. */
 static inline unsigned hveitmar_dip(uint64_t usage) { return usage >> 8 & 0xFF; }

@@ -1,7 +1,7 @@
 //! The C calls of the proved library; the only unsafe lines are here.
 #![allow(unsafe_code)]
 
-use crate::{Usage, UsageRefusal, Verdict};
+use crate::{Held, Usage, UsageRefusal, Verdict};
 
 extern "C" {
     fn hveitmar_verdict(bundle: *const u8, length: usize) -> u64;
@@ -15,6 +15,13 @@ extern "C" {
         flags: usize,
     ) -> u64;
     fn hveitmar_record(bundle: *const u8, length: usize, class: u8) -> u64;
+    fn hveitmar_held(
+        bundle: *const u8,
+        length: usize,
+        state: *const u8,
+        state_length: usize,
+        thread: u8,
+    ) -> u32;
     fn hveitmar_usage(text: *const u8, length: usize) -> u64;
 }
 
@@ -99,6 +106,42 @@ pub fn record(bundle: &[u8], class: u8) -> &[u8] {
     let packed = unsafe { hveitmar_record(bundle.as_ptr(), bundle.len(), class) };
     let (offset, length) = (packed as u32 as usize, (packed >> 32) as usize);
     &bundle[offset..offset + length]
+}
+
+/// How many objects a thread holds in a state, told by its held word.
+///
+/// A state is 2,537 bytes, as the program `hveitmar_trace` takes it: docs/LAW.md
+/// has its form in section 7.
+///
+/// ```
+/// use hveitmar::{held, Answer, Held};
+///
+/// # let folder = concat!(env!("CARGO_MANIFEST_DIR"), "/../../cases/");
+/// let bundle = std::fs::read(format!("{folder}a.bundle"))?;
+/// // The fresh machine: thread 0 lives at address 1, and there is object 0.
+/// let mut state = [0; 2_537];
+/// (state[0], state[3], state[1_832]) = (1, 1, 1);
+/// assert_eq!(held(&bundle, &state, 0), Held::Objects(0));
+/// assert_eq!(held(&bundle, &state, 1), Held::Refused(Answer::NotLive));
+/// // A count above zero, and not its bit; then its bit too.
+/// state[1_321] = 1;
+/// assert_eq!(held(&bundle, &state, 0), Held::Refused(Answer::BadState));
+/// state[2_508] = 1;
+/// assert_eq!(held(&bundle, &state, 0), Held::Objects(1));
+/// # Ok::<(), std::io::Error>(())
+/// ```
+pub fn held(bundle: &[u8], state: &[u8], thread: u8) -> Held {
+    // SAFETY: as above, for both slices.
+    let packed = unsafe {
+        hveitmar_held(
+            bundle.as_ptr(),
+            bundle.len(),
+            state.as_ptr(),
+            state.len(),
+            thread,
+        )
+    };
+    Held::unpacked(packed).unwrap_or_else(|| panic!("{packed:x} is no number of objects held"))
 }
 
 /// Reads a usage as the paper writes it, with `*` for its ⊗: its dip and end,

@@ -1,10 +1,10 @@
 //! The proved verifier and machine for Rust callers.
 //!
 //! [`verify`] judges a bundle, [`record`] finds a class's bytes in it,
-//! [`digest`] and [`answers`] run a schedule on it, [`usage`] reads a usage.
-//! All are proved to give what docs/LAW.md says, whatever the bytes are; this
-//! crate adds types for their numbers. What a bundle is, byte by byte, is there
-//! too.
+//! [`digest`] and [`answers`] run a schedule on it, [`held`] tells how many
+//! objects a thread holds in a state of it, [`usage`] reads a usage. All are
+//! proved to give what docs/LAW.md says, whatever the bytes are; this crate adds
+//! types for their numbers. What a bundle is, byte by byte, is there too.
 //!
 //! ```
 //! # let folder = concat!(env!("CARGO_MANIFEST_DIR"), "/../../cases/");
@@ -21,10 +21,12 @@
 
 mod answer;
 mod calls;
+mod held;
 mod usage;
 mod verdict;
 
 pub use answer::Answer;
-pub use calls::{answers, digest, record, usage, verify};
+pub use calls::{answers, digest, held, record, usage, verify};
+pub use held::Held;
 pub use usage::{Usage, UsageRefusal};
 pub use verdict::{Refusal, Verdict, Why};

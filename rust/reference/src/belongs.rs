@@ -1,10 +1,15 @@
 //! Whether a state is one of a bundle: answer 18.
 
 use crate::bundle::Bundle;
-use crate::state::{State, Thread, Value, MAX_COUNT, OBJECTS, OBJECT_0};
+use crate::slips::{AsWritten, Law, Slip};
+use crate::state::{State, Thread, Value, MAX_COUNT, OBJECTS, OBJECT_0, THREADS};
 
 /// Whether the state is one of this bundle; if not, the answer is 18.
 pub fn belongs(bundle: &Bundle, state: &State) -> bool {
+    belongs_by::<AsWritten>(bundle, state)
+}
+
+pub(crate) fn belongs_by<L: Law>(bundle: &Bundle, state: &State) -> bool {
     let objects = usize::from(state.objects);
     objects <= OBJECTS
         && state.objects > OBJECT_0
@@ -18,6 +23,7 @@ pub fn belongs(bundle: &Bundle, state: &State) -> bool {
             .all(|t| !t.live || thread_belongs(bundle, t, state.objects))
         && (0..objects).all(|object| fields_belong(bundle, state, object))
         && counts_belong(state)
+        && (0..THREADS).all(|thread| word_belongs::<L>(state, thread))
 }
 
 fn thread_belongs(bundle: &Bundle, thread: &Thread, objects: u8) -> bool {
@@ -60,4 +66,17 @@ fn counts_belong(state: &State) -> bool {
     }
     let (there, missing) = holders.split_at(usize::from(state.objects));
     there.iter().all(|&holders| holders <= 1) && missing.iter().all(|&holders| holders == 0)
+}
+
+/// The word of a thread, live or not, has the bits of the objects that it holds
+/// by its counts, and no other.
+fn word_belongs<L: Law>(state: &State, thread: usize) -> bool {
+    let (word, right) = (state.held[thread], state.word(thread));
+    match L::SLIP {
+        Some(Slip::IdleWordIgnored) => word == right || !state.threads[thread].live,
+        Some(Slip::BitTooManyBelongs) => right & !word == 0,
+        Some(Slip::BitTooFewBelongs) => word & !right == 0,
+        Some(Slip::BitsOnlyCounted) => word.count_ones() == right.count_ones(),
+        _ => word == right,
+    }
 }

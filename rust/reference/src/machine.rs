@@ -1,6 +1,7 @@
-//! The machine: a fresh state, and one step of one thread.
+//! The machine: a fresh state, one step of one thread, and the number of
+//! objects that a thread holds.
 
-use crate::belongs::belongs;
+use crate::belongs::belongs_by;
 use crate::bundle::{Addr, Bundle, Class, Field, Instr, Var, INT};
 use crate::instructions::MAX_FIELDS;
 use crate::slips::{AsWritten, Law, Slip};
@@ -56,7 +57,7 @@ pub fn step_in(bundle: &Bundle, state: &mut State, thread: u8, fails: bool) -> u
 }
 
 pub(crate) fn step_by<L: Law>(bundle: &Bundle, state: &mut State, thread: u8, fails: bool) -> u8 {
-    match admit(bundle, state, thread) {
+    match admit::<L>(bundle, state, thread) {
         Ok(mover) => Turn::<L> {
             bundle,
             mover,
@@ -68,9 +69,34 @@ pub(crate) fn step_by<L: Law>(bundle: &Bundle, state: &mut State, thread: u8, fa
     }
 }
 
+/// How many objects the thread holds: 0 and the number, or 17, 18 or 5 as a
+/// step draws them, with number 0.
+pub fn held(b: &[u8], state: &State, thread: u8) -> (u8, u8) {
+    match Bundle::open_with_code(b) {
+        Ok(bundle) => held_in(&bundle, state, thread),
+        Err(_) => (answer::BAD_BUNDLE, 0),
+    }
+}
+
+/// The same question for a bundle already opened.
+pub fn held_in(bundle: &Bundle, state: &State, thread: u8) -> (u8, u8) {
+    held_by::<AsWritten>(bundle, state, thread)
+}
+
+pub(crate) fn held_by<L: Law>(bundle: &Bundle, state: &State, thread: u8) -> (u8, u8) {
+    match admit::<L>(bundle, state, thread) {
+        Ok(index) if L::slips(Slip::LastBitNotCounted) => {
+            let last = state.count(index, OBJECTS - 1) > 0;
+            (answer::WENT_ON, state.number_held(index) - u8::from(last))
+        }
+        Ok(index) => (answer::WENT_ON, state.number_held(index)),
+        Err(refusal) => (refusal, 0),
+    }
+}
+
 /// 18, then 5; gives the thread's number as an index.
-fn admit(bundle: &Bundle, state: &State, thread: u8) -> Result<usize, u8> {
-    if !belongs(bundle, state) {
+fn admit<L: Law>(bundle: &Bundle, state: &State, thread: u8) -> Result<usize, u8> {
+    if !belongs_by::<L>(bundle, state) {
         return Err(answer::BAD_STATE);
     }
     match state.threads.get(usize::from(thread)) {
@@ -320,7 +346,14 @@ impl<L: Law> Turn<'_, L> {
     fn move_count(&self, state: &mut State, v: Var, change: impl Fn(u16) -> u16) {
         if let Ok(Some(object)) = self.locked(state, v) {
             let count = &mut state.counts[self.mover * OBJECTS + object];
-            *count = change(*count);
+            let before = std::mem::replace(count, change(*count));
+            let exits = *count < before;
+            let word = state.word(self.mover);
+            state.held[self.mover] = match L::SLIP {
+                Some(Slip::BitOfAnotherObject) => word.rotate_left(1),
+                Some(Slip::ExitClearsBit) if exits => word & !(1 << object),
+                _ => word,
+            };
         }
     }
 

@@ -26,17 +26,19 @@ impl Law for AsWritten {
 }
 
 /// All slips in one list: the verifier's, each with the fault that a bundle
-/// let through by it leads to, and the machine's.
+/// let through by it leads to, the machine's, and those of the held words.
 macro_rules! slips {
     (
         verifier { $($(#[$said:meta])* $judging:ident => $fault:ident,)* }
         machine { $($(#[$meant:meta])* $moving:ident,)* }
+        words { $($(#[$noted:meta])* $holding:ident,)* }
     ) => {
         /// One mistake.
         #[derive(Clone, Copy, Debug, PartialEq, Eq)]
         pub enum Slip {
             $($(#[$said])* $judging,)*
             $($(#[$meant])* $moving,)*
+            $($(#[$noted])* $holding,)*
         }
 
         /// A law for each slip.
@@ -57,6 +59,13 @@ macro_rules! slips {
                     const SLIP: Option<Slip> = Some(Slip::$moving);
                 }
             )*
+            $(
+                pub struct $holding;
+
+                impl Law for $holding {
+                    const SLIP: Option<Slip> = Some(Slip::$holding);
+                }
+            )*
         }
 
         impl Slip {
@@ -66,12 +75,17 @@ macro_rules! slips {
             /// Slips that make the machine go wrong.
             pub const MACHINE: [Slip; [$(Slip::$moving),*].len()] = [$(Slip::$moving),*];
 
+            /// Slips that keep a wrong word, take it for right, or count its
+            /// bits wrongly.
+            pub const WORDS: [Slip; [$(Slip::$holding),*].len()] = [$(Slip::$holding),*];
+
             /// The fault that a bundle let through by this slip leads to; None
-            /// for the machine's own.
+            /// for those of the machine and its words.
             pub const fn fault(self) -> Option<u8> {
                 match self {
                     $(Slip::$judging => Some(answer::$fault),)*
-                    $(Slip::$moving => None,)*
+                    $(Slip::$moving)|* => None,
+                    $(Slip::$holding)|* => None,
                 }
             }
 
@@ -80,6 +94,7 @@ macro_rules! slips {
                 match self {
                     $(Slip::$judging => verify::verify_by::<laws::$judging>(b),)*
                     $(Slip::$moving)|* => verify::verify(b),
+                    $(Slip::$holding)|* => verify::verify(b),
                 }
             }
 
@@ -89,7 +104,22 @@ macro_rules! slips {
                     $(Slip::$moving => {
                         machine::step_by::<laws::$moving>(bundle, state, thread, fails)
                     })*
+                    $(Slip::$holding => {
+                        machine::step_by::<laws::$holding>(bundle, state, thread, fails)
+                    })*
                     $(Slip::$judging)|* => machine::step_in(bundle, state, thread, fails),
+                }
+            }
+
+            /// What a machine that makes this slip answers to the question how
+            /// many objects the thread holds.
+            pub fn held(self, bundle: &Bundle, state: &State, thread: u8) -> (u8, u8) {
+                match self {
+                    $(Slip::$holding => {
+                        machine::held_by::<laws::$holding>(bundle, state, thread)
+                    })*
+                    $(Slip::$moving)|* => machine::held_in(bundle, state, thread),
+                    $(Slip::$judging)|* => machine::held_in(bundle, state, thread),
                 }
             }
         }
@@ -164,5 +194,21 @@ slips! {
         NewLeavesFields,
         /// monitorenter on null waits while another thread holds object 0.
         NullWaits,
+    }
+    words {
+        /// monitorenter and monitorexit move the bit of the object behind theirs.
+        BitOfAnotherObject,
+        /// monitorexit clears the bit while the count is still above zero.
+        ExitClearsBit,
+        /// 18 isn't given for the word of a thread that isn't live.
+        IdleWordIgnored,
+        /// 18 isn't given for bits that the counts don't ask for.
+        BitTooManyBelongs,
+        /// 18 isn't given for bits that the counts ask for and the word lacks.
+        BitTooFewBelongs,
+        /// 18 isn't given where the word has as many bits as the counts ask for.
+        BitsOnlyCounted,
+        /// The number held is that of the lower 31 bits.
+        LastBitNotCounted,
     }
 }

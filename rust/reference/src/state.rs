@@ -1,4 +1,5 @@
-//! What the machine moves: values, threads, counts, objects and their fields.
+//! What the machine moves: values, threads, counts and held words, objects and
+//! their fields.
 
 use crate::bundle::{Class, INT};
 use crate::instructions::MAX_FIELDS;
@@ -44,7 +45,8 @@ pub struct Thread {
 }
 
 /// The whole machine; the count of thread t on object o is at t * 32 + o, and
-/// field f of object o is at o * 4 + f.
+/// field f of object o is at o * 4 + f. A state that is read may have any held
+/// words; those of a machine's own are worked out from its counts.
 #[derive(Clone, Debug, PartialEq, Eq)]
 pub struct State {
     pub threads: [Thread; THREADS],
@@ -52,6 +54,8 @@ pub struct State {
     pub objects: u8,
     pub classes: [u8; OBJECTS],
     pub fields: [Value; OBJECTS * MAX_FIELDS],
+    /// A word for each thread: bit i stands for object i.
+    pub held: [u32; THREADS],
 }
 
 impl Thread {
@@ -94,6 +98,7 @@ impl State {
         objects: 0,
         classes: [0; OBJECTS],
         fields: [Value::ZERO; OBJECTS * MAX_FIELDS],
+        held: [0; THREADS],
     };
 
     pub fn count(&self, thread: usize, object: usize) -> u16 {
@@ -103,6 +108,26 @@ impl State {
     /// The thread's counts, one for each object.
     pub fn counts_of(&self, thread: usize) -> &[u16] {
         &self.counts[thread * OBJECTS..(thread + 1) * OBJECTS]
+    }
+
+    /// How many objects the thread holds, by its counts.
+    pub fn number_held(&self, thread: usize) -> u8 {
+        let held = self.counts_of(thread).iter().filter(|&&count| count > 0);
+        held.count() as u8
+    }
+
+    /// The word that the thread's counts ask for: bit i is set exactly when its
+    /// count for object i is above zero.
+    pub fn word(&self, thread: usize) -> u32 {
+        let counts = self.counts_of(thread).iter().enumerate();
+        counts.fold(0, |word, (object, &count)| {
+            word | u32::from(count > 0) << object
+        })
+    }
+
+    /// Gives every thread the word that its counts ask for.
+    pub fn settle_words(&mut self) {
+        self.held = std::array::from_fn(|thread| self.word(thread));
     }
 
     /// An object's four field places.

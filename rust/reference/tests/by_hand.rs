@@ -5,7 +5,7 @@
 use reference::bundle::{find_record, Bundle, Verdict};
 use reference::entries::Entry;
 use reference::instructions::{Instr, MAX_FIELDS};
-use reference::machine::{fresh, step, State, Thread, Value};
+use reference::machine::{fresh, held, step, State, Thread, Value};
 use reference::state::OBJECTS;
 use reference::verify::verify;
 use std::collections::HashMap;
@@ -192,6 +192,12 @@ impl Case {
             "count" => {
                 let (thread, object): (usize, usize) = (words.number(), words.number());
                 state.counts[thread * OBJECTS + object] = words.number();
+                state.held[thread] = state.word(thread);
+            }
+            // Behind the thread's counts, which have given it a word that agrees.
+            "held" => {
+                let thread: usize = words.number();
+                state.held[thread] = words.number();
             }
             "objects" => state.objects = words.number(),
             "class" => {
@@ -241,6 +247,10 @@ impl Case {
             "record" => {
                 let record = find_record(self.bundle(), words.number());
                 let found = (record.len(), record.first().copied().unwrap_or(0));
+                same(found, (words.number(), words.number()))
+            }
+            "holds" => {
+                let found = held(self.bundle(), &self.state, words.number());
                 same(found, (words.number(), words.number()))
             }
             "gives" => {

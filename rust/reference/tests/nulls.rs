@@ -282,11 +282,11 @@ fn null_is_uncaught() {
 #[test]
 fn null_uncaught_under_a_lock() {
     for (instr, mut before) in thrown(None) {
-        before.counts[1] = 1;
+        (before.counts[1], before.held[0]) = (1, 2);
         assert_eq!(after(instr, &before, 15), before);
     }
     for (instr, mut before) in thrown(Some(HANDLER)) {
-        before.counts[1] = 1;
+        (before.counts[1], before.held[0]) = (1, 2);
         assert_eq!(after(instr, &before, 0).counts, before.counts);
     }
 }
@@ -309,7 +309,7 @@ fn monitorenter_on_null_never_waits() {
     let held = |variable| {
         let mut before = state(variable, &[]);
         before.threads[1] = before.threads[0];
-        before.counts[OBJECTS] = 1; // thread 1 holds object 0
+        (before.counts[OBJECTS], before.held[1]) = (1, 1); // thread 1 holds object 0
         before
     };
     let instr = Instr::Enter(V, Some(HANDLER));

@@ -364,7 +364,7 @@ fn at_athrow(handler: Option<Addr>, stack: &[Value]) -> (Vec<u8>, State) {
 fn the_faults_of_athrow() {
     let answer = |handler: Option<Addr>, stack: &[Value], held: u16| {
         let (bytes, mut state) = at_athrow(handler, stack);
-        state.counts[1] = held;
+        (state.counts[1], state.held[0]) = (held, u32::from(held > 0) << 1);
         let (answer, after) = run(&bytes, &state, false);
         assert!(answer <= 2 || after == state);
         answer
@@ -447,7 +447,7 @@ fn a_failed_new_without_room() {
     assert_eq!(answer(1, Some(Addr(2)), false), 0);
     // Without handler it still is 15 for a holder.
     let (bytes, mut state) = at_new(0, None, &[]);
-    state.counts[0] = 1;
+    (state.counts[0], state.held[0]) = (1, 1);
     assert_eq!(run(&bytes, &state, true).0, 15);
     // athrow there finds the stack too short first.
     let code = [Instr::Athrow(Some(Addr(2))), Instr::Return];

@@ -5,7 +5,7 @@ use reference::machine::{fresh, step};
 use reference::state::{State, Thread, Value, OBJECTS, THREADS};
 use std::fmt::Write;
 
-pub const STATE_BYTES: usize = 2_505;
+pub const STATE_BYTES: usize = 2_537;
 pub const MAX_STEPS: usize = 4_096;
 pub const BAD_INPUT: &str = "bad input\n";
 /// The number of the first step in the output.
@@ -84,6 +84,7 @@ pub fn encode_state(state: &State) -> Vec<u8> {
     out.push(state.objects);
     out.extend(state.classes);
     out.extend(state.fields.into_iter().flat_map(encode_value));
+    out.extend(state.held.iter().flat_map(|word| word.to_be_bytes()));
     out
 }
 
@@ -98,7 +99,7 @@ fn encode_value(value: Value) -> [u8; 5] {
     }
 }
 
-/// A state of exactly 2,505 bytes.
+/// A state of exactly 2,537 bytes.
 pub fn decode_state(bytes: &[u8]) -> Option<State> {
     let mut rest = bytes;
     let mut state = State::EMPTY;
@@ -111,6 +112,9 @@ pub fn decode_state(bytes: &[u8]) -> Option<State> {
     [state.objects] = take(&mut rest)?;
     state.classes = take(&mut rest)?;
     decode_values(&mut rest, &mut state.fields)?;
+    for word in &mut state.held {
+        *word = u32::from_be_bytes(take(&mut rest)?);
+    }
     rest.is_empty().then_some(state)
 }
 
@@ -199,8 +203,8 @@ pub fn encode_output(output: &Output) -> String {
             format_args!("step {number} thread {thread} answer {answer}{fails}"),
         );
     }
-    for (number, thread) in output.state.threads.iter().enumerate() {
-        thread_line(&mut text, number, thread, output.state.counts_of(number));
+    for number in 0..THREADS {
+        thread_line(&mut text, number, &output.state);
     }
     let classes = spaced(&output.state.classes);
     line(
@@ -218,7 +222,8 @@ fn line(text: &mut String, content: std::fmt::Arguments) {
     writeln!(text, "{content}").expect("a string takes any text");
 }
 
-fn thread_line(text: &mut String, number: usize, thread: &Thread, counts: &[u16]) {
+fn thread_line(text: &mut String, number: usize, state: &State) {
+    let thread = &state.threads[number];
     let Thread {
         class,
         address,
@@ -227,12 +232,12 @@ fn thread_line(text: &mut String, number: usize, thread: &Thread, counts: &[u16]
     } = thread;
     let live = u8::from(thread.live);
     let (variables, stack) = (values_text(&thread.variables), values_text(&thread.stack));
+    let (counts, held) = (spaced(state.counts_of(number)), state.held[number]);
     line(
         text,
         format_args!(
             "thread {number} live {live} class {class} address {address} depth {depth} \
-             vars {variables} stack {stack} counts {}",
-            spaced(counts)
+             vars {variables} stack {stack} counts {counts} held {held}"
         ),
     );
 }
@@ -317,6 +322,7 @@ fn decode_thread_line(text: &str, number: usize, state: &mut State) -> Option<()
     words.values("stack", &mut thread.stack)?;
     words.word("counts")?;
     words.fill(&mut state.counts[number * OBJECTS..(number + 1) * OBJECTS])?;
+    state.held[number] = words.field("held")?;
     (right && words.0.next().is_none()).then_some(())
 }
 

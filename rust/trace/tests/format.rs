@@ -25,7 +25,7 @@ fn case_a_prints_as_told() {
     assert_eq!(
         lines[4],
         format!(
-            "thread 0 live 1 class 0 address 2 depth 1 vars {places} stack {top} counts {counts}"
+            "thread 0 live 1 class 0 address 2 depth 1 vars {places} stack {top} counts {counts} held 0"
         )
     );
     assert_eq!(lines[12], format!("objects 2 classes {counts}"));
@@ -85,9 +85,10 @@ fn bad_inputs() {
     assert!(changed(6, 3), "kind");
     assert!(!changed(6, 1), "a reference");
     assert!(!changed(6, 2), "null");
-    let field = 1 + STATE_BYTES - 5;
+    let field = 1 + 2_500;
     assert!(changed(field, 3), "a field's kind");
     assert!(!changed(field, 2), "a field's null");
+    assert!(!changed(STATE_BYTES, 255), "any word");
     let mut state = State::EMPTY;
     state.threads[0].variables[0] = Value::Ref(7);
     let mut bytes = encode_state(&state);
@@ -110,9 +111,8 @@ fn fields_stand_behind_the_classes() {
     state.fields[127] = Value::Ref(3);
     state.threads[7].stack[15] = Value::Null;
     let bytes = encode_state(&state);
-    assert_eq!(bytes.len(), 2_505);
     assert_eq!(bytes[1_865..1_875], [0, 0, 0, 0, 0, 2, 0, 0, 0, 0]);
-    assert_eq!(bytes[2_500..], [1, 0, 0, 0, 3]);
+    assert_eq!(bytes[2_500..2_505], [1, 0, 0, 0, 3]);
     assert_eq!(decode_state(&bytes), Some(state.clone()));
     let text = run(&encode_input(&[], Some(&state), &[]));
     let last = text.lines().last().expect("a line");
@@ -120,4 +120,50 @@ fn fields_stand_behind_the_classes() {
     assert!(last.ends_with(" i0 r3"), "{last}");
     assert_eq!(last.split(' ').count(), 129);
     assert_eq!(decode_output(&text).map(|output| output.state), Some(state));
+}
+
+/// The high byte of a word comes first; its text is one number.
+#[test]
+fn words_stand_at_the_end() {
+    let mut state = State::EMPTY;
+    state.held[0] = 1 << 31 | 2;
+    state.held[7] = 0x0102_0304;
+    let bytes = encode_state(&state);
+    assert_eq!(bytes.len(), 2_537);
+    assert_eq!(bytes[2_505..2_513], [128, 0, 0, 2, 0, 0, 0, 0]);
+    assert_eq!(bytes[2_533..], [1, 2, 3, 4]);
+    assert_eq!(decode_state(&bytes), Some(state.clone()));
+    assert_eq!(decode_state(&bytes[..2_505]), None, "without words");
+    assert_eq!(decode_state(&bytes[..2_536]), None, "cut short");
+    assert_eq!(decode_state(&[bytes, vec![0]].concat()), None, "too long");
+    let text = run(&encode_input(&[], Some(&state), &[]));
+    let threads: Vec<&str> = text.lines().skip(1).take(8).collect();
+    assert!(threads[0].ends_with(" 0 held 2147483650"), "{}", threads[0]);
+    assert!(threads[1].ends_with(" 0 held 0"), "{}", threads[1]);
+    assert!(threads[7].ends_with(" 0 held 16909060"), "{}", threads[7]);
+    assert_eq!(decode_output(&text).map(|output| output.state), Some(state));
+}
+
+/// A word that disagrees is given back as it came, with 18.
+#[test]
+fn a_word_that_disagrees_stays() {
+    let b = lay_out(&[case_a()]);
+    let (_, mut state) = fresh(&b);
+    state.held[5] = 4;
+    let text = run(&encode_input(&b, Some(&state), &[0]));
+    assert_eq!(text.lines().nth(1), Some("step 1 thread 0 answer 18"));
+    assert_eq!(decode_output(&text).map(|output| output.state), Some(state));
+}
+
+/// In case A thread 0 takes object 1 in its third step and gives it back in its
+/// sixth.
+#[test]
+fn case_a_holds_object_1_for_three_steps() {
+    let b = lay_out(&[case_a()]);
+    let held = [0, 0, 2, 2, 2, 0, 0];
+    for (steps, word) in (1..).zip(held) {
+        let text = run(&encode_input(&b, None, &vec![0; steps]));
+        let line = text.lines().nth(1 + steps).expect("thread 0");
+        assert!(line.ends_with(&format!(" held {word}")), "{steps}: {line}");
+    }
 }

@@ -22,8 +22,9 @@ step: 0 0 1 0!. There may be 4,096 of them. The machine is the proved one, the
 program hveitmar_trace, and begins fresh.
 
 Of each step are told the thread, its class and address, the instruction, the
-object that it works on (null where it finds none), and the answer; then what
-each living thread holds.
+object that it works on (null where it finds none), how many objects the thread
+holds after it (by the proved library), and the answer; then how many each
+living thread holds, and which.
 
 Status 0: run, whatever the answers; 1: the bundle cannot be run (verdict 1 to
 7); 2: a bad command line or file.",

@@ -4,6 +4,7 @@
 //! `compare [bundles] [schedules] [first seed]`; ends with status 1 if
 //! anything differs, could not be compared, or never came up.
 
+use comparison::holdings::Holdings;
 use comparison::order::Order;
 use comparison::records::Records;
 use comparison::runs::Runs;
@@ -50,7 +51,7 @@ fn compare(bundles: u64, schedules: u64, first: u64) -> Result<(u64, u64), Error
     // at once.
     let traces = Traces::with_program()?;
     let states = States::with_program()?;
-    let parts: [(Box<dyn Part>, u64); 7] = [
+    let parts: [(Box<dyn Part>, u64); 8] = [
         (Box::new(Verdicts::around_case_a()), bundles),
         (Box::<Order>::default(), bundles.div_ceil(BUNDLES_A_PAIR)),
         (
@@ -58,6 +59,7 @@ fn compare(bundles: u64, schedules: u64, first: u64) -> Result<(u64, u64), Error
             bundles.div_ceil(BUNDLES_A_RECORD),
         ),
         (Box::<Runs>::default(), schedules),
+        (Box::<Holdings>::default(), schedules),
         (Box::new(traces), schedules.div_ceil(SCHEDULES_A_TRACE)),
         (Box::new(states), schedules.div_ceil(SCHEDULES_A_STATED_RUN)),
         (

@@ -4,15 +4,18 @@
 //! and a schedule on which the true machine then draws the fault that the
 //! slip leads to. For a machine's slip: an accepted bundle and a schedule on
 //! which the slipped machine answers otherwise than the true one. For a slip
-//! of the reader of usages: a text that it answers otherwise.
+//! of the held words: a state, or a run from it, where the slipped machine tells
+//! another number of objects held. For a slip of the reader of usages: a text
+//! that it answers otherwise.
 
 use generator::families::typed;
 use generator::rng::Rng;
-use generator::schedule::Scheduler;
+use generator::schedule::{any_state, Scheduler};
 use generator::texts::text;
 use reference::bundle::Bundle;
-use reference::machine::{answer, fresh, step_in};
+use reference::machine::{answer, fresh, held_in, step_in};
 use reference::slips::Slip;
+use reference::state::THREADS;
 use reference::verify::verify;
 use std::process::ExitCode;
 use usages::slips::SLIPS;
@@ -21,18 +24,20 @@ use usages::{answer as answer_of, Answer};
 const BUNDLES: u64 = 20_000;
 const SCHEDULES: u64 = 20;
 const STEPS: usize = 400;
+const HELD_STEPS: usize = 20;
 const TEXTS: u64 = 20_000;
 
 fn main() -> ExitCode {
     let verifier = Slip::VERIFIER.map(|slip| (slip, (0..BUNDLES).find_map(|s| caught(slip, s))));
     let machine = Slip::MACHINE.map(|slip| (slip, (0..BUNDLES).find_map(|s| differs(slip, s))));
+    let words = Slip::WORDS.map(|slip| (slip, (0..BUNDLES).find_map(|s| misheld(slip, s))));
     let named = |(slip, found)| (format!("{slip:?}"), found);
     let reader = SLIPS.map(|(name, slipped)| {
         let found = (0..TEXTS).find_map(|seed| misread(slipped, seed));
         (name.to_string(), found)
     });
     let mut all_found = true;
-    let all = verifier.into_iter().chain(machine).map(named);
+    let all = verifier.into_iter().chain(machine).chain(words).map(named);
     for (slip, found) in all.chain(reader) {
         all_found &= found.is_some();
         println!("{slip}: {}", found.unwrap_or("not found".to_string()));
@@ -100,6 +105,31 @@ fn difference(b: &[u8], slip: Slip, seed: u64) -> Option<(usize, u8, u8)> {
             (truth != other).then_some((number, other, truth))
         })
         .filter(|&(_, other, _)| other != answer::BAD_STATE)
+}
+
+/// A question that the slipped machine, run alongside from a random state,
+/// answers otherwise.
+fn misheld(slip: Slip, seed: u64) -> Option<String> {
+    let mut rng = Rng::new(seed);
+    let b = typed::well_typed(&mut rng);
+    let bundle = Bundle::open_with_code(&b).ok()?;
+    let mut state = any_state(&mut rng, &b);
+    let mut slipped = state.clone();
+    let mut scheduler = Scheduler::new(seed);
+    (0..=HELD_STEPS).find_map(|step| {
+        if step > 0 {
+            let turn = scheduler.turn(&state);
+            step_in(&bundle, &mut state, turn.thread(), turn.fails());
+            slip.step(&bundle, &mut slipped, turn.thread(), turn.fails());
+        }
+        (0..=THREADS as u8).find_map(|thread| {
+            let truth = held_in(&bundle, &state, thread);
+            let other = slip.held(&bundle, &slipped, thread);
+            let told =
+                format!("seed {seed} step {step} thread {thread} has {other:?} for {truth:?}");
+            (truth != other).then_some(told)
+        })
+    })
 }
 
 /// A text of which the slipped reader says something else.

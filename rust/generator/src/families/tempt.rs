@@ -52,7 +52,14 @@ impl Writer<'_> {
             Slip::CountByVariable
             | Slip::ReentryWaits
             | Slip::NewLeavesFields
-            | Slip::NullWaits => false,
+            | Slip::NullWaits
+            | Slip::BitOfAnotherObject
+            | Slip::ExitClearsBit
+            | Slip::IdleWordIgnored
+            | Slip::BitTooManyBelongs
+            | Slip::BitTooFewBelongs
+            | Slip::BitsOnlyCounted
+            | Slip::LastBitNotCounted => false,
         }
     }
 

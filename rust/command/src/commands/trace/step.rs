@@ -6,22 +6,30 @@ use reference::state::{State, Thread, Value, OBJECTS, OBJECT_0};
 use trace::Turn;
 
 /// What each column of the table holds.
-pub const COLUMNS: [&str; 7] = [
+pub const COLUMNS: [&str; 8] = [
     "step",
     "thread",
     "class",
     "address",
     "instruction",
     "object",
+    "holds",
     "answer",
 ];
 
-/// A step, the state that it was taken from, and the answer.
+/// What a column says where there is nothing to say.
+fn none() -> String {
+    "-".to_string()
+}
+
+/// A step, the state that it was taken from, the answer, and how many objects
+/// the thread holds then, if it lives.
 pub struct Step<'a> {
     pub program: &'a Program<'a>,
     pub state: &'a State,
     pub turn: Turn,
     pub answer: Answer,
+    pub holds: Option<u8>,
 }
 
 impl Step<'_> {
@@ -30,6 +38,7 @@ impl Step<'_> {
         let fails = if self.turn.fails() { "!" } else { "" };
         let thread = format!("{}{fails}", self.turn.thread());
         let answer = format!("{} {}", self.answer.number(), self.answer);
+        let holds = self.holds.map_or_else(none, |number| number.to_string());
         let [class, address, instruction, object] = self.place();
         let told = [
             number.to_string(),
@@ -38,6 +47,7 @@ impl Step<'_> {
             address,
             instruction,
             object,
+            holds,
             answer,
         ];
         told.to_vec()
@@ -46,7 +56,6 @@ impl Step<'_> {
     /// Where the thread stands, its instruction and its object; dashes where
     /// there is none.
     fn place(&self) -> [String; 4] {
-        let none = || "-".to_string();
         let thread = self.state.threads.get(usize::from(self.turn.thread()));
         let Some(thread) = thread.filter(|thread| thread.live) else {
             return [none(), none(), none(), none()];

@@ -1,17 +1,17 @@
 //! What is told of a run.
 
 use super::step::{Step, COLUMNS};
-use hveitmar::Answer;
+use hveitmar::{Answer, Held};
 use listing::{columns, Program};
 use reference::machine::{State, Thread};
 use std::fmt::{self, Display, Formatter};
 use std::io::Error;
-use trace::{decode_output, encode_input, Turn};
+use trace::{decode_output, encode_input, encode_state, Turn};
 
-/// The steps of a run, told one by one, and the state at its end.
+/// The steps of a run, told one by one, and what lives at its end.
 pub struct Story {
     steps: Vec<Vec<String>>,
-    end: State,
+    living: Vec<String>,
 }
 
 /// The proved machine with a bundle.
@@ -37,6 +37,30 @@ impl Machine<'_> {
         let answer = answer.ok_or_else(|| Error::other("no answer came back"))?;
         Ok((answer, output.state))
     }
+
+    /// How many objects the thread holds, if it lives.
+    fn number_held(&self, state: &State, thread: u8) -> Result<Option<u8>, Error> {
+        match hveitmar::held(self.bundle, &encode_state(state), thread) {
+            Held::Objects(number) => Ok(Some(number)),
+            Held::Refused(Answer::NotLive) => Ok(None),
+            other => Err(Error::other(format!("no number held came back: {other:?}"))),
+        }
+    }
+
+    /// A line for each thread that lives.
+    fn living(&self, state: &State) -> Result<Vec<String>, Error> {
+        let mut lines = vec![];
+        for (number, thread) in state.threads.iter().enumerate() {
+            if let Some(held) = self.number_held(state, number as u8)? {
+                let Thread { class, address, .. } = thread;
+                let held = held_text(held, state.counts_of(number));
+                lines.push(format!(
+                    "thread {number} at address {address} of class {class} holds {held}"
+                ));
+            }
+        }
+        Ok(lines)
+    }
 }
 
 impl Story {
@@ -54,26 +78,28 @@ impl Story {
                 state: &state,
                 turn,
                 answer,
+                holds: machine.number_held(&next, turn.thread())?,
             };
             steps.push(step.told(number + 1));
             state = next;
         }
-        Ok(Story { steps, end: state })
+        let living = machine.living(&state)?;
+        Ok(Story { steps, living })
     }
 }
 
-/// What a thread holds: each lock, and how often.
-fn held(state: &State, number: usize) -> String {
-    let locks: Vec<String> = state
-        .counts_of(number)
+/// What a thread holds: how many objects, and each with how often.
+fn held_text(number: u8, counts: &[u16]) -> String {
+    let locks: Vec<String> = counts
         .iter()
         .enumerate()
         .filter(|(_, &count)| count > 0)
         .map(|(object, &count)| format!("object {object} {}", times(count)))
         .collect();
-    match locks.is_empty() {
-        true => "nothing".to_string(),
-        false => locks.join(", "),
+    match number {
+        0 => "nothing".to_string(),
+        1 => format!("1 object: {}", locks.join(", ")),
+        number => format!("{number} objects: {}", locks.join(", ")),
     }
 }
 
@@ -89,18 +115,9 @@ impl Display for Story {
         let heading = COLUMNS.map(String::from).to_vec();
         let lines: Vec<Vec<String>> = [heading].into_iter().chain(self.steps.clone()).collect();
         writeln!(to, "{}", columns(&lines))?;
-        let living = self.end.threads.iter().enumerate();
-        let mut living = living.filter(|(_, thread)| thread.live).peekable();
-        if living.peek().is_none() {
-            return writeln!(to, "no thread lives");
+        match self.living.is_empty() {
+            true => writeln!(to, "no thread lives"),
+            false => writeln!(to, "{}", self.living.join("\n")),
         }
-        living.try_for_each(|(number, thread)| {
-            let Thread { class, address, .. } = thread;
-            let held = held(&self.end, number);
-            writeln!(
-                to,
-                "thread {number} at address {address} of class {class} holds {held}"
-            )
-        })
     }
 }
