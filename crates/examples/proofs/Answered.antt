@@ -10,9 +10,10 @@ use Rattle.machine.specs.Answers.{unlessDrawn}
 use Rattle.machine.specs.Faults.{isArgument, argumentsOk, mayBeObject, isFieldValue}
 use Rattle.machine.specs.Machine.{freshOf, runOf, stepOf}
 use Rattle.machine.specs.Runs.{Step}
+use Rattle.history.specs.History.{historyFrom}
 use Rattle.cases.proofs.Judgement.{judgement}
-use Rattle.examples.specs.Runs.{answersFrom, answers}
+use Rattle.examples.specs.Runs.{answers}
 
 unfoldable pub answered : List ℕ → List Step → List ℕ
-unfolding judgement answersFrom firstBelow countBelow setBelow fillFrom topped pushed popped stored ended started bit setBit clearBit marked fieldsWith withObject othersFree holdsNothing lowestFree placesRefer placedOk liveOk threadOk threadsOk firstOk objectsOk fieldsRefer fieldsOk countOk threadCountsOk countsOk wordAgrees wordsAgree soleHolder soleHolders stateOk unlessDrawn isArgument argumentsOk mayBeObject isFieldValue freshOf runOf stepOf
+unfolding judgement historyFrom firstBelow countBelow setBelow fillFrom topped pushed popped stored ended started bit setBit clearBit marked fieldsWith withObject othersFree holdsNothing lowestFree placesRefer placedOk liveOk threadOk threadsOk firstOk objectsOk fieldsRefer fieldsOk countOk threadCountsOk countsOk wordAgrees wordsAgree soleHolder soleHolders stateOk unlessDrawn isArgument argumentsOk mayBeObject isFieldValue freshOf runOf stepOf
 answered b xs = answers b xs

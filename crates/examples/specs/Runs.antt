@@ -4,20 +4,16 @@ use mathlib.Core.Path.{_≡_}
 use mathlib.Core.Bool.{true, false}
 use Prim.Native.Nat.{ℕ}
 use lib.ListN.{replicate}
-use Rattle.state.specs.declared.State.{State}
-use Rattle.machine.specs.Machine.{freshOf}
-use Rattle.machine.specs.Runs.{Step, answer, after}
+use Rattle.machine.specs.Runs.{Step}
 use Rattle.verifier.specs.Verdict.{verdictOf}
+use Rattle.history.specs.Event.{Event}
+use Rattle.history.specs.History.{history}
 use Rattle.cases.specs.Cases.{caseA}
 use Rattle.examples.specs.Bundles.{i, inc, pop, push0, load, store, branch, enter, exit, new, start, returns, getfield, putfield, top, int, none, free, owing, nullable, line, source, bundleOf}
 
 -- the answers of a list of steps, one after another
-unfoldable pub answersFrom : List ℕ → State → List Step → List ℕ
-answersFrom b s [] = []
-answersFrom b s (x ∷ xs) = answer b s x ∷ answersFrom b (after b s x) xs
-
 abbrev pub answers : List ℕ → List Step → List ℕ
-answers b xs = answersFrom b (freshOf b .state) xs
+answers b xs = map (λ (e : Event). e .answer) (history b xs)
 
 -- a step of thread n, and one in which an allocation fails
 abbrev pub by : ℕ → Step

@@ -2,10 +2,12 @@
 mod texts;
 
 ghost use mathlib.Core.Path.{_≡_};
-ghost use Prim.Native.Nat.{_<_};
+ghost use Prim.Native.Nat.{_≤_, _<_};
 ghost use Rattle.verifier.specs.Verdict.{verdictOf};
 ghost use Rattle.machine.specs.Machine.{stepOf};
-ghost use Rattle.exports.specs.Exports.{packed, packedRecord, packedHeld, advanced, digestOf, answersOf};
+ghost use Rattle.exports.specs.Exports.{packed, packedRecord, packedHeld, objectNumber, packedMet, advanced, scheduled, digestOf, answersOf, metAfter};
+use history::Met;
+use history::Object;
 use state::State;
 use structure::Verdict;
 
@@ -69,10 +71,9 @@ fn advance(b: &[u8], r: Running, thread: u8, fails: bool) -> Running
     }
 }
 
-// All answers of a schedule from the fresh machine, mixed into one number: equal numbers for equal answers.
-#[no_mangle]
-pub extern "C" fn hveitmar_digest(b: &[u8], schedule: &[u8]) -> u64
-    ensures { λ r. ⌜ r ≡ digestOf (now (b .entry)) (now (schedule .entry)) ⌝ }
+// A schedule from the fresh machine.
+fn ran(b: &[u8], schedule: &[u8]) -> Running
+    ensures { λ r. ⌜ r ≡ scheduled (now (b .entry)) (now (schedule .entry)) ⌝ }
 {
     let f = machine::fresh(b);
     let s = f.state;
@@ -84,7 +85,15 @@ pub extern "C" fn hveitmar_digest(b: &[u8], schedule: &[u8]) -> u64
         let x = schedule[i];
         r = advance(b, r, x % 16, 128 <= x);
     }
-    r.digest
+    r
+}
+
+// All answers of a schedule from the fresh machine, mixed into one number: equal numbers for equal answers.
+#[no_mangle]
+pub extern "C" fn hveitmar_digest(b: &[u8], schedule: &[u8]) -> u64
+    ensures { λ r. ⌜ r ≡ digestOf (now (b .entry)) (now (schedule .entry)) ⌝ }
+{
+    ran(b, schedule).digest
 }
 
 // The same of steps of any thread number: its byte, and beside it 1 where an allocation fails.
@@ -102,4 +111,32 @@ pub extern "C" fn hveitmar_answers(b: &[u8], threads: &[u8], fails: &[u8]) -> u6
         r = advance(b, r, threads[i], 1 <= ground::byte(fails, i));
     }
     r.digest
+}
+
+fn object_number(o: Object) -> u64
+    ensures { λ r. ⌜ (r ≡ objectNumber o) × (r ≤ 256) ⌝ }
+{
+    match o {
+        Object::None => 0,
+        Object::One(n) => n as u64 + 1,
+    }
+}
+
+fn pack_met(m: Met) -> u64
+    ensures { λ r. ⌜ r ≡ packedMet m ⌝ }
+{
+    let x = m.instruction;
+    let o = m.object;
+    let n = object_number(o);
+    x.opcode as u64 + 256 * (x.operand as u64) + 65536 * (x.address as u64) + 4294967296 * n
+}
+
+// What a step of the thread meets after a schedule from the fresh machine: the opcode in the low byte, the operand in the next, the address field in the two above,
+// and in the upper half the object's number and one, or 0 where it meets none.
+#[no_mangle]
+pub extern "C" fn hveitmar_meets(b: &[u8], schedule: &[u8], thread: u8) -> u64
+    ensures { λ r. ⌜ r ≡ metAfter (now (b .entry)) (now (schedule .entry)) thread ⌝ }
+{
+    let s = ran(b, schedule).state;
+    pack_met(history::meets(b, s, thread))
 }

@@ -175,7 +175,7 @@ module _ (P : Program) (s : State) (h : Clean P s) (i : ℕ) (t : Thread) (p : C
   move-clean wf g m fails Nothing e f w = absurd e
 
 step-cleans : (b : List ℕ) (s : State) (i : ℕ) (fails : Bool) → Clean (programOf b) s → Cleans (programOf b) (stepOf b s i fails)
-step-cleans b s i fails h = step-by (Cleans (programOf b)) b s i fails (λ n. record { cleans = h }) go
+step-cleans b s i fails h = step-by (Cleans (programOf b)) b s i fails (λ n l. record { cleans = h }) go
   where
     go : Moving b s i fails → Cleans (programOf b) (moveOf (programOf b) s i (threadAt s i) (methodHere b s i) fails (instructionHere b s i))
     go m =

@@ -54,7 +54,7 @@ record Kept (s : State) (r : Stepped) : Type 0 where
   kept : (r .answer ≤ 2 → ⊥) → r .state ≡ s
 
 pub step-kept : (b : List ℕ) (s : State) (i : ℕ) (fails : Bool) → (stepOf b s i fails .answer ≤ 2 → ⊥) → stepOf b s i fails .state ≡ s
-step-kept b s i fails = step-by (Kept s) b s i fails (λ n. record { kept = λ h. refl }) (λ _. record { kept = λ h. absurd (h moved) }) .kept
+step-kept b s i fails = step-by (Kept s) b s i fails (λ n l. record { kept = λ h. refl }) (λ _. record { kept = λ h. absurd (h moved) }) .kept
   where
     moved : moveOf (programOf b) s i (threadAt s i) (methodHere b s i) fails (instructionHere b s i) .answer ≤ 2
     moved = moves (programOf b) s i (threadAt s i) (methodHere b s i) fails (instructionHere b s i) .small

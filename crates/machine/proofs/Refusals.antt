@@ -3,7 +3,8 @@ use mathlib.Core.Path.{_≡_, refl}
 use mathlib.Core.Logic.{_≢_}
 use mathlib.Core.Bool.{Bool, true, false, cond}
 use mathlib.Core.List.{List}
-use Prim.Native.Nat.{ℕ, _<_}
+use Prim.Native.Nat.{ℕ, _≤_, _<_}
+use native.Mathlib.Omega.{arith}
 use lib.Dec.{ltb, eqb}
 use borrow.Author.Tests.{ltb-true, eqb-true, eqb-false}
 use Rattle.ground.specs.Chain.{refuse}
@@ -21,6 +22,7 @@ use Rattle.machine.specs.Waits.{waitOf}
 use Rattle.machine.specs.Moves.{moveOf}
 use Rattle.machine.specs.Machine.{runOf, stepOf}
 use Rattle.machine.proofs.Ready.{formed}
+use Rattle.machine.proofs.Drawn.{fault-drawn, wait-drawn}
 
 -- the move need be the same only where nothing was drawn
 pub drawn-same : (s : State) {n m : ℕ} {x y : Stepped} → n ≡ m → (n ≡ 0 → x ≡ y) → unlessDrawn n s x ≡ unlessDrawn m s y
@@ -61,13 +63,14 @@ pub record Moving (b : List ℕ) (s : State) (i : ℕ) (fails : Bool) : Type 0 w
   pub no-fault : faultOf (programOf b) s i (threadAt s i) (methodHere b s i) fails (instructionHere b s i) ≡ 0
   pub no-wait : waitOf s i (threadAt s i) (instructionHere b s i) ≡ 0
 
--- what holds of the state as given, whatever the answer, and of the move, holds of a step
-pub step-by : (Q : Stepped → Type 0) (b : List ℕ) (s : State) (i : ℕ) (fails : Bool) → ((n : ℕ) → Q (refused n s))
+-- what holds of the state as given, refused with 3 or more, and of the move, holds of a step
+pub step-by : (Q : Stepped → Type 0) (b : List ℕ) (s : State) (i : ℕ) (fails : Bool) → ((n : ℕ) → 3 ≤ n → Q (refused n s))
     → (Moving b s i fails → Q (moveOf (programOf b) s i (threadAt s i) (methodHere b s i) fails (instructionHere b s i))) → Q (stepOf b s i fails)
 unfolding stepOf runOf
 step-by Q b s i fails q p =
-    refuses Q s _ _ _ (λ _. q _) (λ e. refuses Q s _ _ _ (λ _. q _) (λ f. refuses Q s _ _ _ (λ _. q _) (λ g.
-    draws Q s _ _ (λ _. q _) (λ h. draws Q s _ _ (λ _. q _) (λ k.
+    refuses Q s _ _ _ (λ _. q 17 (omega arith)) (λ e. refuses Q s _ _ _ (λ _. q 18 (omega arith)) (λ f. refuses Q s _ _ _ (λ _. q 5 (omega arith)) (λ g.
+    draws Q s _ _ (λ n. q _ (fault-drawn (programOf b) s i (threadAt s i) (methodHere b s i) fails (instructionHere b s i) .high n)) (λ h.
+    draws Q s _ _ (λ n. q _ (wait-drawn (programOf b) s i (threadAt s i) (instructionHere b s i) .high n)) (λ k.
     p (record {
       formed = formed b e;
       belongs = belongs-elim (programOf b) s f;

@@ -239,7 +239,7 @@ module _ (P : Program) (wf : WellFormed P) (s : State) (h : Belongs P s) (z : Si
   move-stays a fails Nothing e f w = absurd e
 
 step-stays : (b : List ℕ) (s : State) (i : ℕ) (fails : Bool) → Belongs (programOf b) s → Sized s → Stays (programOf b) (stepOf b s i fails)
-step-stays b s i fails h z = step-by (Stays (programOf b)) b s i fails (λ n. record { stays = h; sized = z }) go
+step-stays b s i fails h z = step-by (Stays (programOf b)) b s i fails (λ n l. record { stays = h; sized = z }) go
   where
     go : Moving b s i fails → Stays (programOf b) (moveOf (programOf b) s i (threadAt s i) (methodHere b s i) fails (instructionHere b s i))
     go m =

@@ -1,0 +1,5 @@
+pub mod Event
+pub mod Reading
+pub mod Meeting
+pub mod History
+pub mod Agreement
