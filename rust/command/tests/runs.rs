@@ -157,14 +157,15 @@ fn a_trace_tells_how_many_objects_are_held() {
         (blocks[1].to_string(), blocks[2].to_string())
     };
     let at = |address: u16| format!("thread 0 at address {address} of class 0 holds");
+    let first = "  object 1: taken once, given back 0, count 1\n";
+    let second =
+        |back, count| format!("  object 2: taken 2 times, given back {back}, count {count}\n");
     let told = [
         (0, format!("{} nothing\n", at(1))),
-        (5, format!("{} 1 object: object 1 once\n", at(6))),
-        (
-            7,
-            format!("{} 2 objects: object 1 once, object 2 2 times\n", at(8)),
-        ),
-        (8, format!("{} 1 object: object 2 2 times\n", at(9))),
+        (5, format!("{} 1 object:\n{first}", at(6))),
+        (7, format!("{} 2 objects:\n{first}{}", at(8), second(0, 2))),
+        (8, format!("{} 1 object:\n{}", at(9), second(0, 2))),
+        (9, format!("{} 1 object:\n{}", at(10), second(1, 1))),
         (11, "no thread lives\n".to_string()),
     ];
     for (steps, line) in told {

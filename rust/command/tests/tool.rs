@@ -136,7 +136,7 @@ fn every_command_has_help() {
         assert_eq!((ran.err.as_str(), ran.status), ("", Some(0)));
         assert!(overview.out.contains(&format!("hveitmar {command}")));
     }
-    for command in ["explain", "usage"] {
+    for command in ["explain", "trace", "usage"] {
         let help = tool(&[command, "--help"], &[]).out;
         assert!(help.contains("tested, not proved"));
     }

@@ -2,7 +2,9 @@
 
 mod differences;
 pub mod digest;
+mod histories;
 pub mod holdings;
+pub mod meetings;
 pub mod order;
 mod places;
 pub mod proved;

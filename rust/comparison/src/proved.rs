@@ -1,6 +1,7 @@
 //! The proved code's answers in the references' numbers, to be held equal.
 
 use reference::bundle::Verdict;
+use reference::entries::Raw;
 use usages::Answer;
 
 pub use hveitmar::{answers, digest, record};
@@ -24,6 +25,14 @@ pub fn held(bundle: &[u8], state: &[u8], thread: u8) -> Option<(u8, u8)> {
         hveitmar::Held::Refused(answer) => Some((answer.number(), 0)),
         hveitmar::Held::NoState => None,
     }
+}
+
+/// What a step of the thread would meet after the schedule, by the proved
+/// machine: the instruction's four bytes, and the object.
+pub fn meets(bundle: &[u8], schedule: &[u8], thread: u8) -> Option<(Raw, Option<u8>)> {
+    let met = hveitmar::meets(bundle, schedule, thread)?;
+    let [high, low] = met.address.to_be_bytes();
+    Some(([met.opcode, met.operand, high, low], met.object))
 }
 
 /// The proved reader's answer.

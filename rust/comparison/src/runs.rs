@@ -1,8 +1,10 @@
-//! Both machines on the same schedules from the fresh state: every answer.
+//! Both machines on the same schedules from the fresh state: every answer; and
+//! the reference's history of each against its counts.
 
 use crate::digest::{mixed, of_turns};
+use crate::histories::Histories;
 use crate::{proved, Answers, Differences, Part};
-use generator::families::{self, contending, sharing, typed};
+use generator::families::{self, contending, recurring, sharing, typed};
 use generator::lively::{FieldUse, Lively};
 use generator::rng::Rng;
 use generator::schedule::Scheduler;
@@ -28,6 +30,7 @@ pub struct Runs {
     /// Threads started with more than three arguments.
     started_with_many: u64,
     fields: FieldUse,
+    histories: Histories,
     /// Steps of a number that no thread has: all, and those that no
     /// schedule's byte can name.
     beyond: u64,
@@ -63,10 +66,11 @@ impl Contention {
 /// A bundle, and how it was run.
 fn run(seed: u64) -> (Vec<u8>, Lively, bool) {
     let mut rng = Rng::new(!seed);
-    let (contends, shares) = (seed.is_multiple_of(8), seed % 8 == 4);
+    let (contends, shares, recurs) = (seed.is_multiple_of(8), seed % 8 == 4, seed % 8 == 6);
     let bundle = match seed % 3 {
         _ if contends => contending::contending(&mut rng).lay_out(),
         _ if shares => sharing::sharing(&mut rng).lay_out(),
+        _ if recurs => recurring::recurring(&mut rng).lay_out(),
         0 => families::bundle(seed).1,
         _ => typed::well_typed(&mut rng),
     };
@@ -76,7 +80,7 @@ fn run(seed: u64) -> (Vec<u8>, Lively, bool) {
         _ => rng.between(10, 200),
     };
     let (_, state) = fresh(&bundle);
-    let scheduler = match contends || shares {
+    let scheduler = match contends || shares || recurs {
         true => Scheduler::restless(rng.number()),
         false => Scheduler::new(rng.number()),
     };
@@ -122,8 +126,8 @@ impl Runs {
 }
 
 impl Part for Runs {
-    /// Well-typed bundles, any bundle, threads that want the same locks, and
-    /// threads that find them in fields.
+    /// Well-typed bundles, any bundle, threads that want the same locks, threads
+    /// that find them in fields, and threads that are started again and again.
     fn generated(&mut self, seed: u64) {
         let (bundle, run, contends) = run(seed);
         let (first, _) = fresh(&bundle);
@@ -136,6 +140,8 @@ impl Part for Runs {
             self.differences.add(what, &[&bundle, &run.schedule]);
         }
         self.compare_far(seed, &bundle, &run);
+        self.histories
+            .add(&bundle, &run.schedule, seed, &mut self.differences);
         self.running += u64::from(first == answer::WENT_ON);
         self.count(&run);
         if contends {
@@ -158,6 +164,9 @@ impl Part for Runs {
             self.started_with_many
         );
         for (what, count) in self.fields.named() {
+            println!("  {what}: {count}");
+        }
+        for (what, count) in self.histories.named() {
             println!("  {what}: {count}");
         }
         println!(
@@ -195,6 +204,7 @@ impl Part for Runs {
             ),
         ];
         let named = named.into_iter().chain(self.fields.named());
+        let named = named.chain(self.histories.named());
         seen.extend(named.map(|(what, count)| (what.to_string(), count)));
         seen
     }

@@ -2,14 +2,16 @@
 
 use comparison::{digest, proved};
 use generator::builder::{case_a, lay_out, Method, Row};
-use generator::families::{self, sharing, typed};
+use generator::families::{self, recurring, sharing, typed};
 use generator::rng::Rng;
 use generator::schedule::{any_state, schedule};
 use reference::bundle::{Addr, Bundle, Instr, Verdict};
 use reference::entries::Entry;
+use reference::history::{Event, History, Numbers};
 use reference::machine::{fresh, step};
+use reference::met::Met;
 use reference::slips::Slip;
-use trace::encode_state;
+use trace::{encode_state, Turn};
 
 #[test]
 fn cases_a_b_c_and_l() {
@@ -60,6 +62,26 @@ fn held_in_a_run_of_case_a() {
     assert_eq!(proved::held(&bundle, &bytes, 255), Some((18, 0)));
     assert_eq!(proved::held(&[], &bytes, 255), Some((17, 0)));
     assert_eq!(proved::held(&bundle, &bytes[1..], 0), None);
+}
+
+/// In case A the third step takes the lock of object 1, and the sixth gives it
+/// back.
+#[test]
+fn meets_in_a_run_of_case_a() {
+    let bundle = lay_out(&[case_a()]);
+    let meets = |steps: usize, thread| proved::meets(&bundle, &[0; 8][..steps], thread);
+    assert_eq!(meets(0, 0), Some(([9, 0, 0, 0], None)));
+    assert_eq!(meets(2, 0), Some(([7, 0, 0, 0], Some(1))));
+    assert_eq!(meets(4, 0), Some(([6, 0, 0, 8], None)));
+    assert_eq!(meets(5, 0), Some(([8, 0, 0, 0], Some(1))));
+    assert_eq!(meets(6, 0), Some(([12, 0, 0, 0], None)));
+    for (steps, thread) in [(7, 0), (8, 0), (0, 1), (0, 8), (0, 16), (2, 255)] {
+        assert_eq!(meets(steps, thread), None);
+    }
+    // The first new fails, and nobody catches it.
+    assert_eq!(proved::meets(&bundle, &[0x80], 0), None);
+    assert_eq!(proved::meets(&[], &[], 0), None);
+    assert_eq!(proved::meets(&bundle[1..], &[0], 0), None);
 }
 
 /// A failed new finds its handler, which drops what was thrown and returns.
@@ -129,6 +151,86 @@ fn a_slipped_machine_differs_from_the_proved_one() {
         let differing = differing.count();
         assert!(differing >= 10, "{slip:?}: {differing}");
     }
+}
+
+/// Whether a step of a run meets something else.
+fn meets_otherwise(slip: Slip, seed: u64) -> bool {
+    let b = sharing::sharing(&mut Rng::new(seed)).lay_out();
+    let bundle = Bundle::open_with_code(&b).expect("it is accepted");
+    let mut state = fresh(&b).1;
+    let turns = schedule(&b, &state, seed, 40);
+    turns.iter().enumerate().any(|(steps, &byte)| {
+        let turn = Turn(byte);
+        let met = slip.met(&bundle, &state, turn.thread());
+        let met = met.map(|met| (met.instr.bytes(), met.object));
+        step(&b, &mut state, turn.thread(), turn.fails());
+        met != proved::meets(&b, &turns[..steps], turn.thread())
+    })
+}
+
+#[test]
+fn a_slipped_meeting_differs_from_the_proved_one() {
+    for slip in [Slip::NullMeetsObject0, Slip::StartMeetsObject] {
+        let differing = (0..100).filter(|&seed| meets_otherwise(slip, seed));
+        let differing = differing.count();
+        assert!(differing >= 10, "{slip:?}: {differing}");
+    }
+    for slip in [Slip::WaitsCounted, Slip::EarlierThreadCounted] {
+        assert!((0..20).all(|seed| !meets_otherwise(slip, seed)));
+    }
+}
+
+/// The proved machine's history of a run.
+fn proved_history(b: &[u8], turns: &[u8]) -> History {
+    let mut history = History::default();
+    let mut before = proved::digest(b, &[]);
+    for (steps, &byte) in turns.iter().enumerate() {
+        let thread = Turn(byte).thread();
+        let digest = proved::digest(b, &turns[..=steps]);
+        let answer = (0..=18).find(|&answer| digest::mixed(before, answer) == digest);
+        let met = proved::meets(b, &turns[..steps], thread);
+        history.add(Event {
+            thread,
+            answer: answer.expect("an answer"),
+            met: met.map(|(raw, object)| Met {
+                instr: Instr::read(raw),
+                object,
+            }),
+        });
+        before = digest;
+    }
+    history
+}
+
+/// A slipped count of the proved machine's history shows: by the numbers, and
+/// that of waits by their difference too, which is no count.
+#[test]
+fn a_slipped_count_differs_from_the_history() {
+    let (mut waits, mut uncounted, mut earlier) = (0, 0, 0);
+    for seed in 0..40 {
+        let b = recurring::recurring(&mut Rng::new(seed)).lay_out();
+        let turns = schedule(&b, &fresh(&b).1, seed, 80);
+        let history = proved_history(&b, &turns);
+        let mut state = fresh(&b).1;
+        for &byte in &turns {
+            step(&b, &mut state, Turn(byte).thread(), Turn(byte).fails());
+        }
+        for (thread, object) in (0..8).flat_map(|t| (0..32).map(move |o| (t, o))) {
+            let told = history.numbers(thread, object);
+            let of = |slip: Slip| slip.numbers(&history, thread, object);
+            let count = usize::from(state.count(usize::from(thread), usize::from(object)));
+            let agrees = |told: Option<Numbers>| told.is_none_or(|n| n.entered == n.left + count);
+            assert!(agrees(told));
+            assert!(agrees(of(Slip::EarlierThreadCounted)));
+            waits += usize::from(of(Slip::WaitsCounted) != told);
+            uncounted += usize::from(!agrees(of(Slip::WaitsCounted)));
+            earlier += usize::from(of(Slip::EarlierThreadCounted) != told);
+        }
+    }
+    assert!(
+        waits >= 10 && waits == uncounted && earlier >= 10,
+        "{waits} {uncounted} {earlier}"
+    );
 }
 
 #[test]

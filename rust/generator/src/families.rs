@@ -13,6 +13,7 @@ pub(crate) mod interface;
 mod overlapping;
 mod probes;
 pub mod random;
+pub mod recurring;
 mod settle;
 pub mod sharing;
 pub mod sized;

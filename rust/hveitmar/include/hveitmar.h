@@ -37,6 +37,12 @@ uint32_t hveitmar_held(const uint8_t *bundle, size_t length, const uint8_t *stat
 
 #define HVEITMAR_NO_STATE UINT32_C(0xFFFF0000)
 
+/* What a step of this thread would meet after a schedule from the fresh machine, whatever it would
+   answer; the schedule is that of hveitmar_digest. 0 is given where the thread does not live; else
+   hveitmar_opcode, hveitmar_operand, hveitmar_address and hveitmar_object take the number apart. */
+uint64_t hveitmar_meets(const uint8_t *bundle, size_t length, const uint8_t *schedule, size_t steps,
+                        uint8_t thread);
+
 /* Reads the usage in these bytes, such as L.L.(^L.0*^L.0). hveitmar_number, hveitmar_dip,
    hveitmar_end and hveitmar_reliable take the number apart. */
 uint64_t hveitmar_usage(const uint8_t *text, size_t length);
@@ -47,7 +53,8 @@ static inline unsigned hveitmar_number(uint64_t verdict) { return verdict & 0xFF
 /* The class of a refusal; of an accepted bundle, how many classes it has. */
 static inline unsigned hveitmar_class(uint64_t verdict) { return verdict >> 8 & 0xFF; }
 
-/* The address of a refusal, from 1; 0 where it names none. */
+/* The address of a refusal, from 1; of what is met, the instruction's address field; 0 where there
+   is none. */
 static inline unsigned hveitmar_address(uint64_t verdict) { return verdict >> 16 & 0xFFFF; }
 
 /* Why a rule fails, 0 to 3; with every verdict but 9 it is 0. */
@@ -58,6 +65,15 @@ static inline unsigned hveitmar_held_answer(uint32_t held) { return held >> 8; }
 
 /* How many objects, 0 to 32; of a refusal 0. */
 static inline unsigned hveitmar_held_number(uint32_t held) { return held & 0xFF; }
+
+/* The number of the instruction that is met, 1 to 14. */
+static inline unsigned hveitmar_opcode(uint64_t met) { return met & 0xFF; }
+
+/* Its operand. */
+static inline unsigned hveitmar_operand(uint64_t met) { return met >> 8 & 0xFF; }
+
+/* The object whose lock monitorenter takes or monitorexit gives back, 0 to 31; else -1. */
+static inline int hveitmar_object(uint64_t met) { return (int)(met >> 32) - 1; }
 
 /* How far below its present count a thread may go, 0 to 63; of a refusal 0. */
 static inline unsigned hveitmar_dip(uint64_t usage) { return usage >> 8 & 0xFF; }

@@ -1,7 +1,7 @@
 //! The C calls of the proved library; the only unsafe lines are here.
 #![allow(unsafe_code)]
 
-use crate::{Held, Usage, UsageRefusal, Verdict};
+use crate::{Held, Met, Usage, UsageRefusal, Verdict};
 
 extern "C" {
     fn hveitmar_verdict(bundle: *const u8, length: usize) -> u64;
@@ -22,6 +22,13 @@ extern "C" {
         state_length: usize,
         thread: u8,
     ) -> u32;
+    fn hveitmar_meets(
+        bundle: *const u8,
+        length: usize,
+        schedule: *const u8,
+        steps: usize,
+        thread: u8,
+    ) -> u64;
     fn hveitmar_usage(text: *const u8, length: usize) -> u64;
 }
 
@@ -142,6 +149,36 @@ pub fn held(bundle: &[u8], state: &[u8], thread: u8) -> Held {
         )
     };
     Held::unpacked(packed).unwrap_or_else(|| panic!("{packed:x} is no number of objects held"))
+}
+
+/// What a step of this thread would meet after a schedule from the fresh
+/// machine, whatever it would answer. None where the thread does not live, as
+/// none does where the bundle can't be run.
+///
+/// The schedule's bytes are those of [`digest`].
+///
+/// ```
+/// # let folder = concat!(env!("CARGO_MANIFEST_DIR"), "/../../cases/");
+/// let bundle = std::fs::read(format!("{folder}a.bundle"))?;
+/// // Thread 0 stands at its first instruction, new 0; seven steps end it.
+/// let met = hveitmar::meets(&bundle, &[], 0).expect("thread 0 lives");
+/// assert_eq!((met.opcode, met.object), (9, None));
+/// assert_eq!(hveitmar::meets(&bundle, &[0; 7], 0), None);
+/// assert_eq!(hveitmar::meets(&[], &[], 0), None);
+/// # Ok::<(), std::io::Error>(())
+/// ```
+pub fn meets(bundle: &[u8], schedule: &[u8], thread: u8) -> Option<Met> {
+    // SAFETY: as above, for both slices.
+    let packed = unsafe {
+        hveitmar_meets(
+            bundle.as_ptr(),
+            bundle.len(),
+            schedule.as_ptr(),
+            schedule.len(),
+            thread,
+        )
+    };
+    Met::unpacked(packed).unwrap_or_else(|| panic!("{packed:x} is nothing that a step meets"))
 }
 
 /// Reads a usage as the paper writes it, with `*` for its ⊗: its dip and end,

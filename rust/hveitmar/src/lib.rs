@@ -2,9 +2,10 @@
 //!
 //! [`verify`] judges a bundle, [`record`] finds a class's bytes in it,
 //! [`digest`] and [`answers`] run a schedule on it, [`held`] tells how many
-//! objects a thread holds in a state of it, [`usage`] reads a usage. All are
-//! proved to give what docs/LAW.md says, whatever the bytes are; this crate adds
-//! types for their numbers. What a bundle is, byte by byte, is there too.
+//! objects a thread holds in a state of it, [`meets`] what its next step meets,
+//! [`usage`] reads a usage. All are proved to give what docs/LAW.md says,
+//! whatever the bytes are; this crate adds types for their numbers. What a
+//! bundle is, byte by byte, is there too.
 //!
 //! ```
 //! # let folder = concat!(env!("CARGO_MANIFEST_DIR"), "/../../cases/");
@@ -22,11 +23,13 @@
 mod answer;
 mod calls;
 mod held;
+mod met;
 mod usage;
 mod verdict;
 
 pub use answer::Answer;
-pub use calls::{answers, digest, held, record, usage, verify};
+pub use calls::{answers, digest, held, meets, record, usage, verify};
 pub use held::Held;
+pub use met::Met;
 pub use usage::{Usage, UsageRefusal};
 pub use verdict::{Refusal, Verdict, Why};

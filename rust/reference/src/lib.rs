@@ -7,8 +7,10 @@
 pub mod belongs;
 pub mod bundle;
 pub mod entries;
+pub mod history;
 pub mod instructions;
 pub mod machine;
+pub mod met;
 pub mod rules;
 pub mod slips;
 pub mod state;

@@ -95,7 +95,7 @@ pub(crate) fn held_by<L: Law>(bundle: &Bundle, state: &State, thread: u8) -> (u8
 }
 
 /// 18, then 5; gives the thread's number as an index.
-fn admit<L: Law>(bundle: &Bundle, state: &State, thread: u8) -> Result<usize, u8> {
+pub(crate) fn admit<L: Law>(bundle: &Bundle, state: &State, thread: u8) -> Result<usize, u8> {
     if !belongs_by::<L>(bundle, state) {
         return Err(answer::BAD_STATE);
     }

@@ -5,7 +5,9 @@
 //! time, so that the law as written costs nothing for it.
 
 use crate::bundle::Bundle;
+use crate::history::{History, Numbers};
 use crate::machine::{self, answer, State};
+use crate::met::{self, Met};
 use crate::verify::{self, Verdict};
 
 /// What a verifier or a machine goes by: the law as written, or with a slip.
@@ -26,12 +28,14 @@ impl Law for AsWritten {
 }
 
 /// All slips in one list: the verifier's, each with the fault that a bundle
-/// let through by it leads to, the machine's, and those of the held words.
+/// let through by it leads to, the machine's, those of the held words, and those
+/// of histories.
 macro_rules! slips {
     (
         verifier { $($(#[$said:meta])* $judging:ident => $fault:ident,)* }
         machine { $($(#[$meant:meta])* $moving:ident,)* }
         words { $($(#[$noted:meta])* $holding:ident,)* }
+        histories { $($(#[$recalled:meta])* $recalling:ident,)* }
     ) => {
         /// One mistake.
         #[derive(Clone, Copy, Debug, PartialEq, Eq)]
@@ -39,6 +43,7 @@ macro_rules! slips {
             $($(#[$said])* $judging,)*
             $($(#[$meant])* $moving,)*
             $($(#[$noted])* $holding,)*
+            $($(#[$recalled])* $recalling,)*
         }
 
         /// A law for each slip.
@@ -66,6 +71,13 @@ macro_rules! slips {
                     const SLIP: Option<Slip> = Some(Slip::$holding);
                 }
             )*
+            $(
+                pub struct $recalling;
+
+                impl Law for $recalling {
+                    const SLIP: Option<Slip> = Some(Slip::$recalling);
+                }
+            )*
         }
 
         impl Slip {
@@ -79,13 +91,19 @@ macro_rules! slips {
             /// bits wrongly.
             pub const WORDS: [Slip; [$(Slip::$holding),*].len()] = [$(Slip::$holding),*];
 
+            /// Slips that take a step to have met something else, or count a
+            /// history wrongly.
+            pub const HISTORIES: [Slip; [$(Slip::$recalling),*].len()] =
+                [$(Slip::$recalling),*];
+
             /// The fault that a bundle let through by this slip leads to; None
-            /// for those of the machine and its words.
+            /// for those that are not the verifier's.
             pub const fn fault(self) -> Option<u8> {
                 match self {
                     $(Slip::$judging => Some(answer::$fault),)*
                     $(Slip::$moving)|* => None,
                     $(Slip::$holding)|* => None,
+                    $(Slip::$recalling)|* => None,
                 }
             }
 
@@ -95,6 +113,7 @@ macro_rules! slips {
                     $(Slip::$judging => verify::verify_by::<laws::$judging>(b),)*
                     $(Slip::$moving)|* => verify::verify(b),
                     $(Slip::$holding)|* => verify::verify(b),
+                    $(Slip::$recalling)|* => verify::verify(b),
                 }
             }
 
@@ -108,6 +127,7 @@ macro_rules! slips {
                         machine::step_by::<laws::$holding>(bundle, state, thread, fails)
                     })*
                     $(Slip::$judging)|* => machine::step_in(bundle, state, thread, fails),
+                    $(Slip::$recalling)|* => machine::step_in(bundle, state, thread, fails),
                 }
             }
 
@@ -120,6 +140,25 @@ macro_rules! slips {
                     })*
                     $(Slip::$moving)|* => machine::held_in(bundle, state, thread),
                     $(Slip::$judging)|* => machine::held_in(bundle, state, thread),
+                    $(Slip::$recalling)|* => machine::held_in(bundle, state, thread),
+                }
+            }
+
+            /// What a step meets, to one who makes this slip.
+            pub fn met(self, bundle: &Bundle, state: &State, thread: u8) -> Option<Met> {
+                match self {
+                    $(Slip::$recalling => met::met_by::<laws::$recalling>(bundle, state, thread),)*
+                    _ => met::met_in(bundle, state, thread),
+                }
+            }
+
+            /// What one who makes this slip counts in a history.
+            pub fn numbers(self, history: &History, thread: u8, object: u8) -> Option<Numbers> {
+                match self {
+                    $(Slip::$recalling => {
+                        history.numbers_by::<laws::$recalling>(thread, object)
+                    })*
+                    _ => history.numbers(thread, object),
                 }
             }
         }
@@ -210,5 +249,15 @@ slips! {
         BitsOnlyCounted,
         /// The number held is that of the lower 31 bits.
         LastBitNotCounted,
+    }
+    histories {
+        /// monitorenter on null meets object 0, which it throws.
+        NullMeetsObject0,
+        /// start meets the object that it takes.
+        StartMeetsObject,
+        /// A monitorenter that answers 3 counts.
+        WaitsCounted,
+        /// Steps of an earlier thread of the same number count.
+        EarlierThreadCounted,
     }
 }

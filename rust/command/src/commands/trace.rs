@@ -24,7 +24,13 @@ program hveitmar_trace, and begins fresh.
 Of each step are told the thread, its class and address, the instruction, the
 object that it works on (null where it finds none), how many objects the thread
 holds after it (by the proved library), and the answer; then how many each
-living thread holds, and which.
+living thread holds, and of each of them how often the thread took its lock and
+gave it back since it started, and the machine's count.
+
+Both numbers are those of the steps: of the thread's monitorenters on the object
+that answered 0, and of its monitorexits. What a step met is told by the proved
+library; the counting is tested, not proved. In an accepted bundle their
+difference is the count.
 
 Status 0: run, whatever the answers; 1: the bundle cannot be run (verdict 1 to
 7); 2: a bad command line or file.",

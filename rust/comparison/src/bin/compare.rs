@@ -5,6 +5,7 @@
 //! anything differs, could not be compared, or never came up.
 
 use comparison::holdings::Holdings;
+use comparison::meetings::Meetings;
 use comparison::order::Order;
 use comparison::records::Records;
 use comparison::runs::Runs;
@@ -22,6 +23,9 @@ const BUNDLES_A_PAIR: u64 = 10;
 const BUNDLES_A_RECORD: u64 = 10;
 /// One text of a usage for so many bundles.
 const BUNDLES_A_TEXT: u64 = 5;
+/// One run asked for what its steps meet for so many schedules: each question
+/// runs all of it.
+const SCHEDULES_A_MEETING: u64 = 5;
 /// One trace input for so many schedules: each starts a process.
 const SCHEDULES_A_TRACE: u64 = 10;
 /// One run compared state by state for so many: each step starts a process.
@@ -51,7 +55,7 @@ fn compare(bundles: u64, schedules: u64, first: u64) -> Result<(u64, u64), Error
     // at once.
     let traces = Traces::with_program()?;
     let states = States::with_program()?;
-    let parts: [(Box<dyn Part>, u64); 8] = [
+    let parts: [(Box<dyn Part>, u64); 9] = [
         (Box::new(Verdicts::around_case_a()), bundles),
         (Box::<Order>::default(), bundles.div_ceil(BUNDLES_A_PAIR)),
         (
@@ -60,6 +64,10 @@ fn compare(bundles: u64, schedules: u64, first: u64) -> Result<(u64, u64), Error
         ),
         (Box::<Runs>::default(), schedules),
         (Box::<Holdings>::default(), schedules),
+        (
+            Box::<Meetings>::default(),
+            schedules.div_ceil(SCHEDULES_A_MEETING),
+        ),
         (Box::new(traces), schedules.div_ceil(SCHEDULES_A_TRACE)),
         (Box::new(states), schedules.div_ceil(SCHEDULES_A_STATED_RUN)),
         (

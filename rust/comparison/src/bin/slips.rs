@@ -5,17 +5,21 @@
 //! slip leads to. For a machine's slip: an accepted bundle and a schedule on
 //! which the slipped machine answers otherwise than the true one. For a slip
 //! of the held words: a state, or a run from it, where the slipped machine tells
-//! another number of objects held. For a slip of the reader of usages: a text
-//! that it answers otherwise.
+//! another number of objects held. For a slip of histories: a run in which a
+//! step meets something else, or a lock was taken or given back another number
+//! of times. For a slip of the reader of usages: a text that it answers
+//! otherwise.
 
-use generator::families::typed;
+use generator::families::{recurring, sharing, typed};
 use generator::rng::Rng;
 use generator::schedule::{any_state, Scheduler};
 use generator::texts::text;
 use reference::bundle::Bundle;
+use reference::history::History;
 use reference::machine::{answer, fresh, held_in, step_in};
+use reference::met::met_in;
 use reference::slips::Slip;
-use reference::state::THREADS;
+use reference::state::{OBJECTS, THREADS};
 use reference::verify::verify;
 use std::process::ExitCode;
 use usages::slips::SLIPS;
@@ -31,13 +35,16 @@ fn main() -> ExitCode {
     let verifier = Slip::VERIFIER.map(|slip| (slip, (0..BUNDLES).find_map(|s| caught(slip, s))));
     let machine = Slip::MACHINE.map(|slip| (slip, (0..BUNDLES).find_map(|s| differs(slip, s))));
     let words = Slip::WORDS.map(|slip| (slip, (0..BUNDLES).find_map(|s| misheld(slip, s))));
+    let histories =
+        Slip::HISTORIES.map(|slip| (slip, (0..BUNDLES).find_map(|s| misremembered(slip, s))));
     let named = |(slip, found)| (format!("{slip:?}"), found);
     let reader = SLIPS.map(|(name, slipped)| {
         let found = (0..TEXTS).find_map(|seed| misread(slipped, seed));
         (name.to_string(), found)
     });
     let mut all_found = true;
-    let all = verifier.into_iter().chain(machine).chain(words).map(named);
+    let all = verifier.into_iter().chain(machine).chain(words);
+    let all = all.chain(histories).map(named);
     for (slip, found) in all.chain(reader) {
         all_found &= found.is_some();
         println!("{slip}: {}", found.unwrap_or("not found".to_string()));
@@ -129,6 +136,39 @@ fn misheld(slip: Slip, seed: u64) -> Option<String> {
                 format!("seed {seed} step {step} thread {thread} has {other:?} for {truth:?}");
             (truth != other).then_some(told)
         })
+    })
+}
+
+/// A step of a run of which the slipped history has something else.
+fn misremembered(slip: Slip, seed: u64) -> Option<String> {
+    let mut rng = Rng::new(seed);
+    let b = match seed % 2 {
+        0 => recurring::recurring(&mut rng).lay_out(),
+        _ => sharing::sharing(&mut rng).lay_out(),
+    };
+    let bundle = Bundle::open_with_code(&b).ok()?;
+    let mut scheduler = Scheduler::restless(seed);
+    let mut state = fresh(&b).1;
+    let mut history = History::default();
+    (1..=STEPS).find_map(|step| {
+        let turn = scheduler.turn(&state);
+        let thread = turn.thread();
+        let (truth, other) = (
+            met_in(&bundle, &state, thread),
+            slip.met(&bundle, &state, thread),
+        );
+        history.step_in(&bundle, &mut state, thread, turn.fails());
+        let met = (truth != other).then(|| format!("meets {other:?} for {truth:?}"));
+        let told = met.or_else(|| miscounted(slip, &history, thread))?;
+        Some(format!("seed {seed} step {step} thread {thread} {told}"))
+    })
+}
+
+fn miscounted(slip: Slip, history: &History, thread: u8) -> Option<String> {
+    (0..OBJECTS as u8).find_map(|object| {
+        let truth = history.numbers(thread, object);
+        let other = slip.numbers(history, thread, object);
+        (truth != other).then(|| format!("object {object} has {other:?} for {truth:?}"))
     })
 }
 

@@ -59,7 +59,11 @@ impl Writer<'_> {
             | Slip::BitTooManyBelongs
             | Slip::BitTooFewBelongs
             | Slip::BitsOnlyCounted
-            | Slip::LastBitNotCounted => false,
+            | Slip::LastBitNotCounted
+            | Slip::NullMeetsObject0
+            | Slip::StartMeetsObject
+            | Slip::WaitsCounted
+            | Slip::EarlierThreadCounted => false,
         }
     }
 

@@ -3,7 +3,10 @@
 use super::step::{Step, COLUMNS};
 use hveitmar::{Answer, Held};
 use listing::{columns, Program};
+use reference::history::{Event, History, Numbers};
+use reference::instructions::Instr;
 use reference::machine::{State, Thread};
+use reference::met::Met;
 use std::fmt::{self, Display, Formatter};
 use std::io::Error;
 use trace::{decode_output, encode_input, encode_state, Turn};
@@ -47,16 +50,34 @@ impl Machine<'_> {
         }
     }
 
-    /// A line for each thread that lives.
-    fn living(&self, state: &State) -> Result<Vec<String>, Error> {
+    /// The step behind these turns, as the history has it.
+    fn event(&self, before: &[u8], turn: Turn, answer: Answer) -> Event {
+        let met = hveitmar::meets(self.bundle, before, turn.thread());
+        let read = |met: hveitmar::Met| {
+            let [high, low] = met.address.to_be_bytes();
+            Met {
+                instr: Instr::read([met.opcode, met.operand, high, low]),
+                object: met.object,
+            }
+        };
+        Event {
+            thread: turn.thread(),
+            answer: answer.number(),
+            met: met.map(read),
+        }
+    }
+
+    /// A line for each thread that lives, and one for each object that it holds.
+    fn living(&self, state: &State, history: &History) -> Result<Vec<String>, Error> {
         let mut lines = vec![];
         for (number, thread) in state.threads.iter().enumerate() {
             if let Some(held) = self.number_held(state, number as u8)? {
                 let Thread { class, address, .. } = thread;
-                let held = held_text(held, state.counts_of(number));
+                let held = held_text(held);
                 lines.push(format!(
                     "thread {number} at address {address} of class {class} holds {held}"
                 ));
+                lines.extend(locks(state, number, history)?);
             }
         }
         Ok(lines)
@@ -70,7 +91,8 @@ impl Story {
         let machine = Machine { program, bundle };
         let listed = Program::new(bundle);
         let (_, mut state) = machine.run(None)?;
-        let mut steps = vec![];
+        let schedule: Vec<u8> = turns.iter().map(|turn| turn.0).collect();
+        let (mut steps, mut history) = (vec![], History::default());
         for (number, &turn) in turns.iter().enumerate() {
             let (answer, next) = machine.run(Some((&state, turn)))?;
             let step = Step {
@@ -81,32 +103,44 @@ impl Story {
                 holds: machine.number_held(&next, turn.thread())?,
             };
             steps.push(step.told(number + 1));
+            history.add(machine.event(&schedule[..number], turn, answer));
             state = next;
         }
-        let living = machine.living(&state)?;
+        let living = machine.living(&state, &history)?;
         Ok(Story { steps, living })
     }
 }
 
-/// What a thread holds: how many objects, and each with how often.
-fn held_text(number: u8, counts: &[u16]) -> String {
-    let locks: Vec<String> = counts
-        .iter()
-        .enumerate()
-        .filter(|(_, &count)| count > 0)
-        .map(|(object, &count)| format!("object {object} {}", times(count)))
-        .collect();
+fn held_text(number: u8) -> String {
     match number {
         0 => "nothing".to_string(),
-        1 => format!("1 object: {}", locks.join(", ")),
-        number => format!("{number} objects: {}", locks.join(", ")),
+        1 => "1 object:".to_string(),
+        number => format!("{number} objects:"),
     }
 }
 
-fn times(count: u16) -> String {
-    match count {
+/// A line for each object that a thread holds: how often it took the lock and
+/// gave it back since it started, by the history, and the machine's count.
+fn locks(state: &State, thread: usize, history: &History) -> Result<Vec<String>, Error> {
+    let counts = state.counts_of(thread).iter().enumerate();
+    counts
+        .filter(|(_, &count)| count > 0)
+        .map(|(object, count)| {
+            let numbers = history.numbers(thread as u8, object as u8);
+            let unknown = || Error::other(format!("no step started thread {thread}"));
+            let Numbers { entered, left } = numbers.ok_or_else(unknown)?;
+            let taken = times(entered);
+            Ok(format!(
+                "  object {object}: taken {taken}, given back {left}, count {count}"
+            ))
+        })
+        .collect()
+}
+
+fn times(number: usize) -> String {
+    match number {
         1 => "once".to_string(),
-        count => format!("{count} times"),
+        number => format!("{number} times"),
     }
 }
 
