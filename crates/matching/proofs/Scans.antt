@@ -49,6 +49,12 @@ module _ (f g : ℕ → ℕ) where
   first-same zero h = refl
   first-same (suc n) h = rw (first-same n (λ i l. h i (omega arith)), h n (omega arith))
 
+-- all of them 0
+pub first-none : (n : ℕ) (f : ℕ → ℕ) → ((i : ℕ) → i < n → f i ≡ 0) → firstShort n f ≡ 0
+unfolding scan orThen
+first-none zero f h = refl
+first-none (suc n) f h = rw (first-none n f (λ i l. h i (omega arith)), h n (omega arith))
+
 -- one number, and then the others
 pub first-then : (n : ℕ) (f : ℕ → ℕ) → firstShort (suc n) f ≡ thenShort (f 0) (firstShort n (λ j. f (suc j)))
 unfolding scan

@@ -55,9 +55,13 @@ fn var_kept(n: u8, k: Class, r: &[u8], p: u32, q: u32, i: u8) -> bool
     rows::variable_word(n, k, r, p, i) == rows::variable_word(n, k, r, q, i)
 }
 
+// Most often all variables stay, and then one comparison of their bytes tells.
 fn vars_pass(n: u8, k: Class, r: &[u8], p: u32, q: u32) -> u8
     ensures { λ o. ⌜ o ≡ varsPass (k .vars) (rowFrom n k (now (r .entry)) p) (rowFrom n k (now (r .entry)) q) ⌝ }
 {
+    if rows::vars_same(k, r, p, q) {
+        return 0;
+    }
     let vars = k.vars;
     for i in 0..vars {
         if !var_kept(n, k, r, p, q, i) {

@@ -3,7 +3,7 @@ ghost use mathlib.Core.Path.{_≡_};
 ghost use Prim.Native.Nat.{_+_};
 ghost use Rattle.entries.specs.Words.{entryFrom};
 ghost use Rattle.rows.specs.Rows.{startBehind, rowStart, variableAt, depthAt, stackAt};
-ghost use Rattle.rows.specs.Words.{variableWord, stackWord, entryWord};
+ghost use Rattle.rows.specs.Words.{variableWord, stackWord, entryWord, sameBytes, varsSame};
 use bundle::Class;
 use instructions::Addr;
 
@@ -126,4 +126,29 @@ pub fn stack_word(n: u8, k: Class, r: &[u8], s: u32, j: u8) -> u32
         return 0;
     }
     stack_in(r, s, k.vars, k.limit, j)
+}
+
+// Told without an early end, so that many bytes are compared at once.
+fn same_bytes(r: &[u8], p: usize, q: usize, n: usize) -> bool
+    ensures { λ o. ⌜ o ≡ sameBytes (now (r .entry)) p q n ⌝ }
+{
+    if r.len() < n {
+        return false;
+    }
+    let last = r.len() - n;
+    if (last < p) | (last < q) {
+        return false;
+    }
+    let mut same = true;
+    for i in 0..n {
+        same = same & (r[p + i] == r[q + i]);
+    }
+    same
+}
+
+// Whether the variables of two rows, which begin at p and at q, are the same bytes.
+pub fn vars_same(k: Class, r: &[u8], p: u32, q: u32) -> bool
+    ensures { λ o. ⌜ o ≡ varsSame (now (r .entry)) p q (k .vars) ⌝ }
+{
+    same_bytes(r, p as usize, q as usize, 4 * (k.vars as usize))
 }

@@ -4,9 +4,10 @@ use Rattle.rows.specs.Rows.{rowFrom}
 use Rattle.ground.proofs.Chain.{scan-zero, scan-next, scan-left, scan-done}
 use borrow.Author.Tests.{ne-eqb, eq-eqb, not-false}
 use mathlib.Core.Bool.{not}
-use mathlib.Core.Path.{_≡_, refl, ap}
+use mathlib.Core.Path.{_≡_, refl, sym, _∙_, ap}
 use mathlib.Core.Logic.{⊎-elim}
 use Prim.Native.Nat.{_≤_, _-_}
+use Rattle.matching.proofs.Same.{same-pass}
 use borrow.Author.Needs.{needs}
 use Rattle.matching.proofs.vars_pass.Statement.{statement}
 use Rattle.matching.proofs.vars_pass.Tie as tie
@@ -17,6 +18,12 @@ Inv-loop n k r p q vars i₀ i = (i ≤ vars) × (firstShort i (varShort (rowFro
 abbrev μ-loop : tie.MeasureT-loop
 μ-loop n k r p q vars i₀ i = vars - i
 
+vars-same-requires : tie.Need-vars-same-requires Inv-loop μ-loop
+vars-same-requires c κs = search needs
+
+returns : tie.Need-returns Inv-loop μ-loop
+returns c = same-pass _ _ _ _ _ (sym (c .before .vars-same .ensures) ∙ c .if1 .taken)
+
 loop-holds : tie.Need-loop-holds Inv-loop μ-loop
 loop-holds c = search (needs, scan-zero)
 
@@ -26,9 +33,9 @@ var-kept-requires c κs = search needs
 var-short-requires : tie.Need-var-short-requires Inv-loop μ-loop
 var-short-requires c κs = search needs
 
-returns : tie.Need-returns Inv-loop μ-loop
+returns-2 : tie.Need-returns-2 Inv-loop μ-loop
 unfolding varsPass
-returns c = scan-left _ _ refl _ _ _ (c .before .before .before .before .loop-test .taken) (c .before .before .before .before .before .loop .inv .1) (c .before .var-short .ensures) (ap not (ne-eqb _ _ (c .if2 .taken)))
+returns-2 c = scan-left _ _ refl _ _ _ (c .before .before .before .before .loop-test .taken) (c .before .before .before .before .before .loop .inv .1) (c .before .var-short .ensures) (ap not (ne-eqb _ _ (c .if3 .taken)))
 
 add-i : tie.Need-add-i Inv-loop μ-loop
 add-i c = search needs
@@ -43,12 +50,12 @@ loop-again c =
       ⊎-elim
           (λ w. scan-next _ _ refl _ _ there (w .1 .ensures) (ap not (eq-eqb _ _ (w .2 .left))))
           (λ w. scan-next _ _ refl _ _ there (c .before .var-kept .ensures (not-false _ (w .left))) refl)
-          (c .if1 .came),
+          (c .if2 .came),
     )
 
-returns-2 : tie.Need-returns-2 Inv-loop μ-loop
+returns-3 : tie.Need-returns-3 Inv-loop μ-loop
 unfolding varsPass
-returns-2 c = scan-done _ _ refl _ _ _ (c .before .loop .inv .0) (c .loop-test .left) (c .before .loop .inv .1)
+returns-3 c = scan-done _ _ refl _ _ _ (c .before .loop .inv .0) (c .loop-test .left) (c .before .loop .inv .1)
 
 pub vars-pass-spec : {M : Type 1} → statement M
 vars-pass-spec =
@@ -56,11 +63,13 @@ vars-pass-spec =
     (tie.spec
     Inv-loop
     μ-loop
+    vars-same-requires
+    returns
     loop-holds
     var-kept-requires
     var-short-requires
-    returns
+    returns-2
     add-i
     loop-less
     loop-again
-    returns-2)
+    returns-3)
