@@ -1,8 +1,8 @@
 -- The held words in the test of 18: one word made anew from its counts, and two holders asked of the words.
-use mathlib.Core.Path.{_≡_, refl, sym, _∙_, ap, ap₂}
+use mathlib.Core.Path.{_≡_, refl, sym, _∙_, ap}
 use mathlib.Core.Bool.{Bool, true, false, cond, _&&_, _||_, not}
 use mathlib.Core.List.{List}
-use Prim.Native.Nat.{ℕ, zero, suc, _+_, _<_, _≤_}
+use Prim.Native.Nat.{ℕ, _+_, _<_, _≤_}
 use lib.Bits.{bitOr}
 use lib.Dec.{ltb, leb, eqb}
 use native.Mathlib.Omega.{arith}

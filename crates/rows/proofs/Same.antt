@@ -11,7 +11,6 @@ use lib.ListN.{length}
 use borrow.Author.Tests.{ltb-true, ltb-false, leb-true, lt-leb, le-leb, lt-ltb, eqb-true}
 use Rattle.ground.specs.Bounded.{allBelow}
 use Rattle.ground.specs.Bytes.{at}
-use Rattle.ground.specs.Chain.{refuse}
 use Rattle.ground.proofs.Bools.{and-fst, and-snd, and-false, or-right, or-false-fst, or-false-snd}
 use Rattle.ground.proofs.Bounded.{all-elim}
 use Rattle.rows.specs.Rows.{entryAt, variableAt}
