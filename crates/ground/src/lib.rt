@@ -26,7 +26,7 @@ pub fn word(s: &[u8], i: usize) -> u16
     0
 }
 
-fn halves(hi: u16, lo: u16) -> u32
+pub fn halves(hi: u16, lo: u16) -> u32
     ensures { λ r. ⌜ r ≡ hi * 65536 + lo ⌝ }
 {
     (hi as u32) * 65536 + (lo as u32)

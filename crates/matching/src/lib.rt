@@ -55,13 +55,9 @@ fn var_kept(n: u8, k: Class, r: &[u8], p: u32, q: u32, i: u8) -> bool
     rows::variable_word(n, k, r, p, i) == rows::variable_word(n, k, r, q, i)
 }
 
-// Most often all variables stay, and then one comparison of their bytes tells.
-fn vars_pass(n: u8, k: Class, r: &[u8], p: u32, q: u32) -> u8
+fn vars_search(n: u8, k: Class, r: &[u8], p: u32, q: u32) -> u8
     ensures { λ o. ⌜ o ≡ varsPass (k .vars) (rowFrom n k (now (r .entry)) p) (rowFrom n k (now (r .entry)) q) ⌝ }
 {
-    if rows::vars_same(k, r, p, q) {
-        return 0;
-    }
     let vars = k.vars;
     for i in 0..vars {
         if !var_kept(n, k, r, p, q, i) {
@@ -74,6 +70,16 @@ fn vars_pass(n: u8, k: Class, r: &[u8], p: u32, q: u32) -> u8
     0
 }
 
+// Most often all variables stay, and then nothing is searched.
+fn vars_pass(n: u8, k: Class, r: &[u8], p: u32, q: u32) -> u8
+    ensures { λ o. ⌜ o ≡ varsPass (k .vars) (rowFrom n k (now (r .entry)) p) (rowFrom n k (now (r .entry)) q) ⌝ }
+{
+    if rows::vars_same(k, r, p, q) {
+        return 0;
+    }
+    vars_search(n, k, r, p, q)
+}
+
 // The comparison at v gave w.
 fn other_short(n: u8, k: Class, r: &[u8], v: u8, w: u8, p: u32, q: u32, i: u8) -> u8
     ensures { λ o. ⌜ o ≡ otherShort v w (rowFrom n k (now (r .entry)) p) (rowFrom n k (now (r .entry)) q) i ⌝ }
@@ -84,7 +90,7 @@ fn other_short(n: u8, k: Class, r: &[u8], v: u8, w: u8, p: u32, q: u32, i: u8) -
     var_short(n, k, r, p, q, i)
 }
 
-fn others_pass(n: u8, k: Class, r: &[u8], v: u8, w: u8, p: u32, q: u32) -> u8
+fn others_search(n: u8, k: Class, r: &[u8], v: u8, w: u8, p: u32, q: u32) -> u8
     ensures { λ o. ⌜ o ≡ othersPass (k .vars) v w (rowFrom n k (now (r .entry)) p) (rowFrom n k (now (r .entry)) q) ⌝ }
 {
     let vars = k.vars;
@@ -97,6 +103,16 @@ fn others_pass(n: u8, k: Class, r: &[u8], v: u8, w: u8, p: u32, q: u32) -> u8
         }
     }
     0
+}
+
+// Most often all variables but v stay.
+fn others_pass(n: u8, k: Class, r: &[u8], v: u8, w: u8, p: u32, q: u32) -> u8
+    ensures { λ o. ⌜ o ≡ othersPass (k .vars) v w (rowFrom n k (now (r .entry)) p) (rowFrom n k (now (r .entry)) q) ⌝ }
+{
+    if (w == 0) & rows::others_same(k, r, p, q, v) {
+        return 0;
+    }
+    others_search(n, k, r, v, w, p, q)
 }
 
 fn rest_short(n: u8, k: Class, r: &[u8], a: u8, b: u8, p: u32, q: u32, j: u8) -> u8

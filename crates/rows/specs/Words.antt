@@ -1,11 +1,11 @@
--- An entry's four bytes as the one number that the code compares, and stretches of bytes that it compares at once. No rule speaks of them.
-use mathlib.Core.Bool.{Bool, _&&_}
+-- An entry's four bytes as the one number that the code compares, and rows that it compares without taking their entries apart. No rule speaks of them.
+use mathlib.Core.Bool.{Bool, _&&_, _||_}
 use mathlib.Core.List.{List}
 use Prim.Native.Nat.{ℕ, _+_, _*_, _-_}
 use lib.Dec.{ltb, leb, eqb}
 use lib.ListN.{length}
 use Rattle.ground.specs.Bounded.{allBelow}
-use Rattle.ground.specs.Bytes.{at, quad}
+use Rattle.ground.specs.Bytes.{quad}
 use Rattle.ground.specs.Chain.{refuse}
 use Rattle.bundle.specs.declared.Class.{Class}
 
@@ -21,14 +21,14 @@ stackWord r s vars j = quad r (s + 4 * vars + 1 + 4 * j)
 unfoldable pub entryWord : Class → List ℕ → ℕ → ℕ → ℕ
 entryWord k r s j = refuse (ltb j (k .limit)) 0 (stackWord r s (k .vars) j)
 
--- byte i from p on is that from q on
-abbrev pub sameByte : List ℕ → ℕ → ℕ → ℕ → Bool
-sameByte r p q i = eqb (at r (p + i)) (at r (q + i))
+-- the entry of variable i is the same four bytes in the rows that begin at p and at q, or it is v's
+abbrev pub sameOrNamed : List ℕ → ℕ → ℕ → ℕ → ℕ → Bool
+sameOrNamed r p q v i = eqb i v || eqb (variableWord r p i) (variableWord r q i)
 
--- n bytes from p on, all there, are those from q on
-unfoldable pub sameBytes : List ℕ → ℕ → ℕ → ℕ → Bool
-sameBytes r p q n = leb n (length r) && leb p (length r - n) && leb q (length r - n) && allBelow n (sameByte r p q)
+-- n variables, all there, are the same bytes in both rows, all but the variable v
+unfoldable pub sameBut : List ℕ → ℕ → ℕ → ℕ → ℕ → Bool
+sameBut r p q n v = leb (4 * n) (length r) && leb p (length r - 4 * n) && leb q (length r - 4 * n) && allBelow n (sameOrNamed r p q v)
 
--- the variables of the rows that begin at p and at q are the same bytes
+-- .. and all of them, since none has the number n
 abbrev pub varsSame : List ℕ → ℕ → ℕ → ℕ → Bool
-varsSame r p q vars = sameBytes r p q (4 * vars)
+varsSame r p q vars = sameBut r p q vars vars

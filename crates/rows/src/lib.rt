@@ -1,9 +1,11 @@
 // A row as it stands in the bundle, read entry by entry from a record and numbers. Every read is total; a place is a u32, so that no sum wraps.
 ghost use mathlib.Core.Path.{_≡_};
-ghost use Prim.Native.Nat.{_+_};
+ghost use Prim.Native.Nat.{_+_, _<_};
+ghost use lib.ListN.{length};
+ghost use Rattle.ground.specs.Bytes.{quad};
 ghost use Rattle.entries.specs.Words.{entryFrom};
 ghost use Rattle.rows.specs.Rows.{startBehind, rowStart, variableAt, depthAt, stackAt};
-ghost use Rattle.rows.specs.Words.{variableWord, stackWord, entryWord, sameBytes, varsSame};
+ghost use Rattle.rows.specs.Words.{variableWord, stackWord, entryWord, sameBut, varsSame};
 use bundle::Class;
 use instructions::Addr;
 
@@ -128,27 +130,48 @@ pub fn stack_word(n: u8, k: Class, r: &[u8], s: u32, j: u8) -> u32
     stack_in(r, s, k.vars, k.limit, j)
 }
 
-// Told without an early end, so that many bytes are compared at once.
-fn same_bytes(r: &[u8], p: usize, q: usize, n: usize) -> bool
-    ensures { λ o. ⌜ o ≡ sameBytes (now (r .entry)) p q n ⌝ }
+// The four bytes at i, where they are known to be there: no end is asked for.
+fn word_within(r: &[u8], i: usize) -> u32
+    requires { ⌜ i + 3 < length (now r) ⌝ }
+    ensures { λ w. ⌜ w ≡ quad (now (r .entry)) i ⌝ }
 {
-    if r.len() < n {
+    ground::halves(
+        ground::join(r[i], r[i + 1]),
+        ground::join(r[i + 2], r[i + 3]),
+    )
+}
+
+// The end is asked for once, for all n entries.
+fn same_but(r: &[u8], p: usize, q: usize, n: u8, v: u8) -> bool
+    ensures { λ o. ⌜ o ≡ sameBut (now (r .entry)) p q n v ⌝ }
+{
+    let size = 4 * (n as usize);
+    if r.len() < size {
         return false;
     }
-    let last = r.len() - n;
+    let last = r.len() - size;
     if (last < p) | (last < q) {
         return false;
     }
-    let mut same = true;
     for i in 0..n {
-        same = same & (r[p + i] == r[q + i]);
+        let j = 4 * (i as usize);
+        if (i != v) & (word_within(r, p + j) != word_within(r, q + j)) {
+            return false;
+        }
     }
-    same
+    true
 }
 
 // Whether the variables of two rows, which begin at p and at q, are the same bytes.
 pub fn vars_same(k: Class, r: &[u8], p: u32, q: u32) -> bool
     ensures { λ o. ⌜ o ≡ varsSame (now (r .entry)) p q (k .vars) ⌝ }
 {
-    same_bytes(r, p as usize, q as usize, 4 * (k.vars as usize))
+    same_but(r, p as usize, q as usize, k.vars, k.vars)
+}
+
+// .. all but the variable v.
+pub fn others_same(k: Class, r: &[u8], p: u32, q: u32, v: u8) -> bool
+    ensures { λ o. ⌜ o ≡ sameBut (now (r .entry)) p q (k .vars) v ⌝ }
+{
+    same_but(r, p as usize, q as usize, k.vars, v)
 }

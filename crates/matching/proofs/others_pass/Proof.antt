@@ -1,69 +1,29 @@
-use Rattle.matching.specs.Passes.{otherShort, othersPass}
-use Rattle.matching.specs.Matching.{firstShort}
-use Rattle.rows.specs.Rows.{rowFrom}
-use Rattle.ground.proofs.Chain.{scan-zero, scan-next, scan-left, scan-done}
-use Rattle.ground.proofs.Bools.{or-false-fst, or-false-snd}
-use borrow.Author.Tests.{ne-eqb, eq-eqb, not-false}
-use mathlib.Core.Bool.{not}
-use mathlib.Core.Path.{_≡_, refl, ap}
-use mathlib.Core.Logic.{⊎-elim}
-use Prim.Native.Nat.{_≤_, _-_}
+use mathlib.Core.Path.{sym, _∙_}
+use native.Mathlib.Omega.{arith}
 use lib.Dec.{eqb}
+use borrow.Author.Tests.{eqb-true}
+use Rattle.ground.proofs.Bools.{and-fst, and-snd}
+use Rattle.matching.proofs.Same.{same-others}
 use borrow.Author.Needs.{needs}
 use Rattle.matching.proofs.others_pass.Statement.{statement}
 use Rattle.matching.proofs.others_pass.Tie as tie
 
-abbrev Inv-loop : tie.InvT-loop
-Inv-loop n k r v w p q vars i₀ i = (i ≤ vars) × (firstShort i (otherShort v w (rowFrom n k r p) (rowFrom n k r q)) ≡ 0)
+others-same-requires : tie.Need-others-same-requires
+others-same-requires c κs = search needs
 
-abbrev μ-loop : tie.MeasureT-loop
-μ-loop n k r v w p q vars i₀ i = vars - i
+returns : tie.Need-returns
+returns c =
+    let none = eqb (c .before .before .before .args .w) 0 in
+    same-others _ _ _ (λ i. omega (arith, c .before .before .shared-slice-known .given i)) _ _ _ _
+    (eqb-true _ _ (and-fst none _ (c .if1 .taken)))
+    (sym (c .before .others-same .ensures) ∙ and-snd none _ (c .if1 .taken))
 
-loop-holds : tie.Need-loop-holds Inv-loop μ-loop
-loop-holds c = search (needs, scan-zero)
+others-search-requires : tie.Need-others-search-requires
+others-search-requires c κs = search needs
 
-var-kept-requires : tie.Need-var-kept-requires Inv-loop μ-loop
-var-kept-requires c κs = search needs
-
-other-short-requires : tie.Need-other-short-requires Inv-loop μ-loop
-other-short-requires c κs = search needs
-
-returns : tie.Need-returns Inv-loop μ-loop
-unfolding othersPass
-returns c = scan-left _ _ refl _ _ _ (c .before .before .before .before .loop-test .taken) (c .before .before .before .before .before .loop .inv .1) (c .before .other-short .ensures) (ap not (ne-eqb _ _ (c .if2 .taken)))
-
-add-i : tie.Need-add-i Inv-loop μ-loop
-add-i c = search needs
-
-loop-less : tie.Need-loop-less Inv-loop μ-loop
-loop-less c = search needs
-
-loop-again : tie.Need-loop-again Inv-loop μ-loop
-loop-again c =
-    let there = c .before .before .before .loop .inv .1 in
-    let named = eqb (c .before .before .before .loop .i) (c .before .before .before .before .before .args .v) in (
-      search needs,
-      ⊎-elim
-          (λ w. scan-next _ _ refl _ _ there (w .1 .ensures) (ap not (eq-eqb _ _ (w .2 .left))))
-          (λ w. scan-next _ _ refl _ _ {v = 0} there (rw (or-false-fst named _ (w .left)) (c .before .var-kept .ensures (not-false _ (or-false-snd named _ (w .left))))) refl)
-          (c .if1 .came),
-    )
-
-returns-2 : tie.Need-returns-2 Inv-loop μ-loop
-unfolding othersPass
-returns-2 c = scan-done _ _ refl _ _ _ (c .before .loop .inv .0) (c .loop-test .left) (c .before .loop .inv .1)
+returns-2 : tie.Need-returns-2
+returns-2 c = search needs
 
 pub others-pass-spec : {M : Type 1} → statement M
 others-pass-spec =
-    tie.close
-    (tie.spec
-    Inv-loop
-    μ-loop
-    loop-holds
-    var-kept-requires
-    other-short-requires
-    returns
-    add-i
-    loop-less
-    loop-again
-    returns-2)
+    tie.close (tie.spec others-same-requires returns others-search-requires returns-2)
