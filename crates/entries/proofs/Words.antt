@@ -9,7 +9,7 @@ use lib.Arith.{digits-div, digits-mod, mod-mul}
 use borrow.Author.Tests.{eqb-true, eq-eqb, ne-eqb}
 use Rattle.ground.proofs.Bools.{and-fst, and-snd, never}
 use Rattle.entries.specs.Entries.{Ref, zeros, pairOk, nullableOk, entryOf, dipOf, endOf, classOf, isInt, isTop, isBlank, isReference, isNullable}
-use Rattle.entries.specs.Fits.{compare, want}
+use Rattle.entries.specs.Fits.{takes, compare, want}
 use Rattle.entries.specs.Words.{entryFrom}
 use Rattle.entries.proofs.Types.{blank-bytes, int-bytes, top-bytes, reference-bytes, nullable-bytes, reference-is, nullable-is, fits-itself}
 
@@ -123,3 +123,8 @@ either-class n w h = go (isReference (entryFrom n w)) refl
     go : (t : Bool) → isReference (entryFrom n w) ≡ t → w / 65536 % 256 ≡ classOf (entryFrom n w)
     go true q = word-class n w q
     go false q = nullable-class n w (rw q at h)
+
+-- references of one class: each takes the other
+pub alike-takes : (n w v : ℕ) → isReference (entryFrom n w) ≡ true → isReference (entryFrom n v) ≡ true → eqb (w / 65536 % 256) (v / 65536 % 256) ≡ true → takes (entryFrom n v) (entryFrom n w) ≡ true
+unfolding takes
+alike-takes n w v p q e = rw (word-is n w p, word-is n v q) e

@@ -1,6 +1,7 @@
 // One entry of a row, as the four-byte number that it is in a bundle of n classes; nothing is taken apart further than a question needs.
 // Ends are kept as stored, with 64 added.
 ghost use mathlib.Core.Path.{_≡_};
+ghost use mathlib.Core.Bool.{true};
 ghost use Prim.Native.Nat.{_+_, _-_, _≤_, _/_, _%_};
 ghost use lib.Dec.{leb};
 ghost use Rattle.ground.specs.Chain.{refuse};
@@ -229,6 +230,13 @@ pub fn compare(n: u8, w: u32, v: u32) -> u8
     )
 }
 
+// Both are references, and of one class: only their pairs are left to compare. It is so at nearly every lock that is taken or given back.
+fn alike(n: u8, w: u32, v: u32) -> bool
+    ensures { λ o. ⌜ (o ≡ true → (isReference (entryFrom n w) ≡ true) × (isReference (entryFrom n v) ≡ true) × (takes (entryFrom n v) (entryFrom n w) ≡ true)) ⌝ }
+{
+    is_reference(n, w) & is_reference(n, v) & (class_in(w) == class_in(v))
+}
+
 fn less(d: u16) -> u16
     ensures { λ r. ⌜ r ≡ d - 1 ⌝ }
 {
@@ -242,6 +250,15 @@ fn less(d: u16) -> u16
 pub fn compare_entered(n: u8, w: u32, v: u32) -> u8
     ensures { λ r. ⌜ r ≡ compare (entryFrom n w) (wantEntered (entryFrom n v)) ⌝ }
 {
+    if alike(n, w, v) {
+        return compared(
+            true,
+            dip_in(w) as u16,
+            end_in(w) as u16,
+            less(dip_in(v) as u16),
+            end_in(v) as u16 + 1,
+        );
+    }
     compared(
         takes(n, v, w),
         dip_of(n, w),
@@ -255,6 +272,15 @@ pub fn compare_entered(n: u8, w: u32, v: u32) -> u8
 pub fn compare_exited(n: u8, w: u32, v: u32) -> u8
     ensures { λ r. ⌜ r ≡ compare (entryFrom n w) (wantExited (entryFrom n v)) ⌝ }
 {
+    if alike(n, w, v) {
+        return compared(
+            true,
+            dip_in(w) as u16,
+            end_in(w) as u16,
+            dip_in(v) as u16 + 1,
+            less(end_in(v) as u16),
+        );
+    }
     compared(
         takes(n, v, w),
         dip_of(n, w),
