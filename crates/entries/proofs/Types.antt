@@ -167,25 +167,14 @@ kind-told (Nullable c) = refl
 kind-told Blank = refl
 kind-told Malformed = refl
 
--- a type in two questions, the rarer kind last
-abbrev common : Entry → Bool
-common x = (isInt x || isTop x) || isReference x
-
-pub type-first : (x : Entry) → common x ≡ true → true ≡ isType x
-type-first Int q = refl
-type-first Top q = refl
-type-first (Ref c d e) q = refl
-type-first (Nullable c) q = refl
-type-first Blank q = sym q
-type-first Malformed q = sym q
-
-pub type-last : (x : Entry) → common x ≡ false → isNullable x ≡ isType x
-type-last Int q = sym q
-type-last Top q = sym q
-type-last (Ref c d e) q = sym q
-type-last (Nullable c) q = refl
-type-last Blank q = refl
-type-last Malformed q = refl
+-- a type by its kinds
+pub type-told : (x : Entry) → (((isInt x || isTop x) || isReference x) || isNullable x) ≡ isType x
+type-told Int = refl
+type-told Top = refl
+type-told (Ref c d e) = refl
+type-told (Nullable c) = refl
+type-told Blank = refl
+type-told Malformed = refl
 
 -- ---- what Int, and a class with (0,0), come to
 pub int-compared : (y : Entry) → cond (isInt y || isTop y) 0 1 ≡ compare Int (want y)

@@ -90,14 +90,11 @@ pub fn is_blank(n: u8, w: u32) -> bool
     w == 0
 }
 
-// Every entry of a bundle is asked this: the common kinds are told without a branch, and what may be null after them.
+// Most entries that change are asked this: told without a branch, since kinds follow each other as they like.
 pub fn is_type(n: u8, w: u32) -> bool
     ensures { λ r. ⌜ r ≡ isType (entryFrom n w) ⌝ }
 {
-    if is_int(n, w) | is_top(n, w) | is_reference(n, w) {
-        return true;
-    }
-    is_nullable(n, w)
+    is_int(n, w) | is_top(n, w) | is_reference(n, w) | is_nullable(n, w)
 }
 
 fn kind_of(n: u8, w: u32) -> u8

@@ -1,2 +1,3 @@
 pub mod FirstBroken
 pub mod WhyFirst
+mod Formed

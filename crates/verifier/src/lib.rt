@@ -31,7 +31,7 @@ fn form_at(n: u8, c: u8, k: Class, r: &[u8], i: u16) -> Verdict
     }
 }
 
-fn forms_of(n: u8, c: u8, k: Class, r: &[u8]) -> Verdict
+fn forms_search(n: u8, c: u8, k: Class, r: &[u8]) -> Verdict
     ensures { λ o. ⌜ o ≡ formsOf n c k (now (r .entry)) ⌝ }
 {
     let code = k.code;
@@ -47,6 +47,21 @@ fn forms_of(n: u8, c: u8, k: Class, r: &[u8]) -> Verdict
         address: 0,
         why: 0,
     }
+}
+
+// Most often all rows are formed, and then no first one is searched that isn't.
+fn forms_of(n: u8, c: u8, k: Class, r: &[u8]) -> Verdict
+    ensures { λ o. ⌜ o ≡ formsOf n c k (now (r .entry)) ⌝ }
+{
+    if forms::rows_formed(n, k, r) {
+        return Verdict {
+            number: 0,
+            class: 0,
+            address: 0,
+            why: 0,
+        };
+    }
+    forms_search(n, c, k, r)
 }
 
 fn forms_of_class(b: &[u8], c: u8) -> Verdict
