@@ -1,7 +1,8 @@
 // The instruction table of document 01: an instruction from its bytes, and whether it keeps to the table.
 ghost use mathlib.Core.Path.{_≡_};
-ghost use Prim.Native.Nat.{ℕ, _≤_, _/_};
+ghost use Prim.Native.Nat.{ℕ, _≤_, _<_, _/_};
 ghost use Rattle.instructions.specs.Table.{lineOf, decoded, tableOk, lastOk, instructionOk};
+ghost use Rattle.instructions.specs.Limits.{operandLimit, addressReach};
 
 // An address of a method, from 1; as a handler, 0 is none.
 pub struct Addr(pub u16);
@@ -59,30 +60,49 @@ pub fn instruction_of(x: Code) -> Instruction
     }
 }
 
-// An arm is a line of the table; `named` is the field count of the class that a field's operand names. It is held against the four bytes themselves, so that no instruction is made only to be looked at.
+// What is below this keeps to the line of an opcode up to 12, as an operand: nothing where there is no such line, 0, a variable, a class. Two reads in place of a jump by the opcode, which is hard to guess.
+fn operand_limit(classes: u8, vars: u8, opcode: u8) -> u8
+    ensures { λ r. ⌜ r ≡ operandLimit classes vars opcode ⌝ }
+{
+    let kinds: [u8; 16] = [0, 1, 1, 1, 2, 2, 1, 2, 2, 3, 3, 1, 1, 0, 0, 0];
+    let limits: [u8; 4] = [0, 1, vars, classes];
+    limits[(kinds[(opcode % 16) as usize] % 4) as usize]
+}
+
+// The greatest address of a line: 0, or k for a target and a handler.
+fn address_reach(code: u16, opcode: u8) -> u16
+    ensures { λ r. ⌜ r ≡ addressReach code opcode ⌝ }
+{
+    let reaches: [u16; 16] = [0, 0, 0, 0, 0, 0, code, code, 0, code, 0, code, 0, 0, 0, 0];
+    reaches[(opcode % 16) as usize]
+}
+
+// The lines up to 12; a target is not 0.
+fn plain_ok(classes: u8, vars: u8, code: u16, x: Code) -> bool
+    requires { ⌜ x .opcode < 13 ⌝ }
+    ensures { λ r. ⌜ ((fields : ℕ → ℕ) → r ≡ tableOk classes fields vars code x) ⌝ }
+{
+    (x.operand < operand_limit(classes, vars, x.opcode))
+        & (x.address <= address_reach(code, x.opcode))
+        & ((x.opcode != 6) | (x.address != 0))
+}
+
+// The lines 13 and 14; `named` is the field count of the class that the operand names.
+fn field_ok(classes: u8, named: u8, code: u16, x: Code) -> bool
+    requires { ⌜ 13 ≤ x .opcode ⌝ }
+    ensures { λ r. ⌜ ((vars : ℕ) (fields : ℕ → ℕ) → named ≡ fields (x .operand / 4) → r ≡ tableOk classes fields vars code x) ⌝ }
+{
+    (x.opcode <= 14) & ((x.operand / 4 < classes) & (x.operand % 4 < named)) & (x.address <= code)
+}
+
+// The table is held against the four bytes themselves, so that no instruction is made only to be looked at.
 fn table_ok(classes: u8, named: u8, vars: u8, code: u16, x: Code) -> bool
     ensures { λ r. ⌜ ((fields : ℕ → ℕ) → (13 ≤ x .opcode → named ≡ fields (x .operand / 4)) → r ≡ tableOk classes fields vars code x) ⌝ }
 {
-    let operand = x.operand;
-    let address = x.address;
-    let opcode = x.opcode;
-    match opcode {
-        1 => (operand == 0) & (address == 0),
-        2 => (operand == 0) & (address == 0),
-        3 => (operand == 0) & (address == 0),
-        4 => (operand < vars) & (address == 0),
-        5 => (operand < vars) & (address == 0),
-        6 => (operand == 0) & ((1 <= address) & (address <= code)),
-        7 => (operand < vars) & (address <= code),
-        8 => (operand < vars) & (address == 0),
-        9 => (operand < classes) & (address <= code),
-        10 => (operand < classes) & (address == 0),
-        11 => (operand == 0) & (address <= code),
-        12 => (operand == 0) & (address == 0),
-        13 => ((operand / 4 < classes) & (operand % 4 < named)) & (address <= code),
-        14 => ((operand / 4 < classes) & (operand % 4 < named)) & (address <= code),
-        _ => false,
+    if x.opcode < 13 {
+        return plain_ok(classes, vars, code, x);
     }
+    field_ok(classes, named, code, x)
 }
 
 fn ends_code(opcode: u8) -> bool
