@@ -1,4 +1,5 @@
 pub mod Ready
+pub mod Uncounted
 pub mod Drawn
 pub mod Refusals
 pub mod Kept

@@ -24,15 +24,6 @@ use Rattle.machine.specs.Machine.{runOf, stepOf}
 use Rattle.machine.proofs.Ready.{formed}
 use Rattle.machine.proofs.Drawn.{fault-drawn, wait-drawn}
 
--- the move need be the same only where nothing was drawn
-pub drawn-same : (s : State) {n m : ℕ} {x y : Stepped} → n ≡ m → (n ≡ 0 → x ≡ y) → unlessDrawn n s x ≡ unlessDrawn m s y
-unfolding unlessDrawn refuse
-drawn-same s {n} {m} {x} {y} e f = rw (← e) (go (eqb n 0) (λ q. f (eqb-true n 0 q)))
-  where
-    go : (t : Bool) → (t ≡ true → x ≡ y) → cond t x (refused n s) ≡ cond t y (refused n s)
-    go true g = g refl
-    go false g = refl
-
 -- a property of what a step gives
 module _ (Q : Stepped → Type 0) where
   pub either : (t : Bool) (a b : Stepped) → (t ≡ true → Q a) → (t ≡ false → Q b) → Q (cond t a b)

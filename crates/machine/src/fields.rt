@@ -1,17 +1,19 @@
 // getfield and putfield, and what the fields of a new object hold.
 ghost use mathlib.Core.Path.{_≡_};
 ghost use Prim.Native.Nat.{_<_};
-ghost use Rattle.bundle.specs.Program.{methodOf, methodAt};
+ghost use Rattle.bundle.specs.Program.{Program, methodOf, methodAt};
+ghost use Rattle.state.specs.declared.State.{State};
 ghost use Rattle.machine.specs.Answers.{unlessDrawn};
 ghost use Rattle.machine.specs.Faults.{mayBeObject, isFieldValue, getFault, putFault};
 ghost use Rattle.machine.specs.Moves.{firstField, firstFields, getMove, putMove};
-use crate::Stepped;
+ghost use Rattle.machine.specs.Turns.{turned};
+use crate::Change;
+use crate::Turn;
 use crate::ends;
 use crate::moves;
 use crate::starts;
 use bundle::Class;
 use instructions::Addr;
-use state::State;
 use threads::Thread;
 use values::Slot;
 
@@ -68,8 +70,9 @@ fn is_field_value(classes: &[u8], d: u8, x: Slot) -> bool
 }
 
 // A null owner throws object 0, as a failed new does.
-pub(crate) fn get_step(
-    s: State,
+pub(crate) fn get_turn(
+    counts: &[u16],
+    classes: &[u8],
     i: u8,
     t: Thread,
     c: u8,
@@ -77,39 +80,27 @@ pub(crate) fn get_step(
     vars: u8,
     f: u8,
     h: Addr,
-) -> Stepped
+) -> Turn
     requires { ⌜ t .at .0 < 65535 ⌝ }
-    ensures { λ r. ⌜ r ≡ unlessDrawn (getFault s i t c limit h) s (getMove s i t vars f h) ⌝ }
+    ensures { λ r. ⌜ ((P : Program) (s : State) → s .counts ≡ now (counts .entry) → s .classes ≡ now (classes .entry) → turned P s i t r ≡ unlessDrawn (getFault s i t c limit h) s (getMove s i t vars f h)) ⌝ }
 {
     if t.depth < 1 {
-        return Stepped {
-            answer: 11,
-            state: s,
-        };
+        return moves::refused(t, 11);
     }
     let x = threads::top(t);
-    if !may_be_object(&s.classes, c, x) {
-        return Stepped {
-            answer: 13,
-            state: s,
-        };
+    if !may_be_object(classes, c, x) {
+        return moves::refused(t, 13);
     }
     if values::is_null(x) {
-        return moves::settle(
-            s,
-            i,
-            ends::throw_turn(&s.counts, i, t, limit, vars, h, values::ref_slot(0)),
-        );
+        return ends::throw_turn(counts, i, t, limit, vars, h, values::ref_slot(0));
     }
-    let k = (values::object_of(x) as usize) * 4 + (f as usize);
-    let z = values::zero_slot();
-    let y = if k < 128 { s.fields[k] } else { z };
-    moves::went_on(s, i, t.at, threads::set_top(t, y))
+    moves::went_on(t.at, t, Change::Top(values::object_of(x), f))
 }
 
 // The value is on top, the owner below it; `d` is the field's descriptor.
-pub(crate) fn put_step(
-    s: State,
+pub(crate) fn put_turn(
+    counts: &[u16],
+    classes: &[u8],
     i: u8,
     t: Thread,
     c: u8,
@@ -118,31 +109,21 @@ pub(crate) fn put_step(
     vars: u8,
     f: u8,
     h: Addr,
-) -> Stepped
+) -> Turn
     requires { ⌜ t .at .0 < 65535 ⌝ }
-    ensures { λ r. ⌜ r ≡ unlessDrawn (putFault s i t c d limit h) s (putMove s i t vars f h) ⌝ }
+    ensures { λ r. ⌜ ((P : Program) (s : State) → s .counts ≡ now (counts .entry) → s .classes ≡ now (classes .entry) → turned P s i t r ≡ unlessDrawn (putFault s i t c d limit h) s (putMove s i t vars f h)) ⌝ }
 {
     if t.depth < 2 {
-        return Stepped {
-            answer: 11,
-            state: s,
-        };
+        return moves::refused(t, 11);
     }
     let x = threads::top(t);
     let y = threads::from_top(t, 1);
-    if !(is_field_value(&s.classes, d, x) & may_be_object(&s.classes, c, y)) {
-        return Stepped {
-            answer: 13,
-            state: s,
-        };
+    if !(is_field_value(classes, d, x) & may_be_object(classes, c, y)) {
+        return moves::refused(t, 13);
     }
     if values::is_null(y) {
-        return moves::settle(
-            s,
-            i,
-            ends::throw_turn(&s.counts, i, t, limit, vars, h, values::ref_slot(0)),
-        );
+        return ends::throw_turn(counts, i, t, limit, vars, h, values::ref_slot(0));
     }
-    let next = state::put_field(s, values::object_of(y), f, x);
-    moves::went_on(next, i, t.at, threads::pop(t, 2))
+    let u = threads::pop(t, 2);
+    moves::went_on(t.at, u, Change::Field(values::object_of(y), f, x))
 }

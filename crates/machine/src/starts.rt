@@ -1,13 +1,18 @@
 // start.
 ghost use mathlib.Core.Path.{_≡_};
-ghost use Prim.Native.Nat.{_<_};
+ghost use Prim.Native.Nat.{ℕ, _<_};
 ghost use Rattle.ground.specs.Bytes.{at};
-ghost use Rattle.bundle.specs.Program.{methodAt};
+ghost use Rattle.bundle.specs.Program.{Program, methodAt};
+ghost use Rattle.state.specs.declared.State.{State};
+ghost use Rattle.state.specs.State.{lowestFree};
 ghost use Rattle.machine.specs.Answers.{unlessDrawn};
 ghost use Rattle.machine.specs.Faults.{isObject, isArgument, argumentAt, argumentsOk, startFault};
 ghost use Rattle.machine.specs.Waits.{startWait};
-ghost use Rattle.machine.specs.Moves.{startedBy, startMove};
+ghost use Rattle.machine.specs.Moves.{startMove};
+ghost use Rattle.machine.specs.Turns.{begun, turned};
+use crate::Change;
 use crate::Stepped;
+use crate::Turn;
 use crate::moves;
 use state::State;
 use threads::Thread;
@@ -53,45 +58,43 @@ fn arguments_ok(classes: &[u8], t: Thread, args: u8, r: &[u8], c: u8) -> bool
     is_object(classes, c, threads::from_top(t, args))
 }
 
-fn started_by(s: State, i: u8, t: Thread, args: u8, c: u8, j: u8) -> Stepped
-    requires { ⌜ (t .at .0 < 65535) × (args < 255) ⌝ }
-    ensures { λ r. ⌜ r ≡ startedBy s i t args c j ⌝ }
-{
-    let w = threads::start(state::thread(s, j), t, c, args);
-    let next = state::put_thread(s, j, w);
-    moves::went_on(next, i, t.at, threads::pop(t, args + 1))
-}
-
-fn start_step(s: State, i: u8, t: Thread, args: u8, r: &[u8], c: u8) -> Stepped
+// The new thread gets its number where the state is.
+fn start_turn(classes: &[u8], t: Thread, args: u8, r: &[u8], c: u8) -> Turn
     requires { ⌜ t .at .0 < 65535 ⌝ }
-    ensures { λ o. ⌜ o ≡ unlessDrawn (startFault (s .classes) t args (at (now (r .entry))) c) s (unlessDrawn (startWait s) s (startMove s i t args c)) ⌝ }
+    ensures { λ o. ⌜ ((P : Program) (s : State) (i : ℕ) → s .classes ≡ now (classes .entry) → turned P s i t o ≡ unlessDrawn (startFault (s .classes) t args (at (now (r .entry))) c) s (unlessDrawn (startWait s) s (startMove s i t args c))) ⌝ }
 {
     if t.depth <= args {
-        return Stepped {
-            answer: 11,
-            state: s,
-        };
+        return moves::refused(t, 11);
     }
-    if !arguments_ok(&s.classes, t, args, r, c) {
-        return Stepped {
-            answer: 13,
-            state: s,
-        };
+    if !arguments_ok(classes, t, args, r, c) {
+        return moves::refused(t, 13);
     }
-    let j = state::lowest_free(s);
+    let u = threads::pop(t, args + 1);
+    moves::went_on(t.at, u, Change::Begin(c, args))
+}
+
+pub(crate) fn start_class(b: &[u8], classes: &[u8], t: Thread, c: u8) -> Turn
+    requires { ⌜ t .at .0 < 65535 ⌝ }
+    ensures { λ o. ⌜ ((P : Program) (s : State) (i : ℕ) → s .classes ≡ now (classes .entry) → turned P s i t o ≡ unlessDrawn (startFault (s .classes) t (methodAt (now (b .entry)) c .args) (methodAt (now (b .entry)) c .descriptor) c) s (unlessDrawn (startWait s) s (startMove s i t (methodAt (now (b .entry)) c .args) c))) ⌝ }
+{
+    let k = bundle::class_at(b, c);
+    start_turn(classes, t, k.args, bundle::part_of(b, k), c)
+}
+
+// t goes on as u with the answer n, and the new thread has the number j.
+pub(crate) fn begun(s: State, i: u8, t: Thread, u: Thread, n: u8, c: u8, args: u8, j: u8) -> Stepped
+    ensures { λ r. ⌜ (j ≡ lowestFree s → r ≡ begun s i t u n c args) ⌝ }
+{
     if 8 <= j {
         return Stepped {
             answer: 4,
             state: s,
         };
     }
-    started_by(s, i, t, args, c, j)
-}
-
-pub(crate) fn start_class(b: &[u8], s: State, i: u8, t: Thread, c: u8) -> Stepped
-    requires { ⌜ t .at .0 < 65535 ⌝ }
-    ensures { λ o. ⌜ o ≡ unlessDrawn (startFault (s .classes) t (methodAt (now (b .entry)) c .args) (methodAt (now (b .entry)) c .descriptor) c) s (unlessDrawn (startWait s) s (startMove s i t (methodAt (now (b .entry)) c .args) c)) ⌝ }
-{
-    let k = bundle::class_at(b, c);
-    start_step(s, i, t, k.args, bundle::part_of(b, k), c)
+    let w = threads::start(state::thread(s, j), t, c, args);
+    let next = state::put_thread(s, j, w);
+    Stepped {
+        answer: n,
+        state: state::put_thread(next, i, u),
+    }
 }

@@ -1,6 +1,6 @@
 // The machine's state: eight thread numbers, 32 objects, one count for each thread and each object, a held word for each thread, four field places for each object.
 ghost use mathlib.Core.Path.{_≡_};
-ghost use Rattle.state.specs.State.{threadAt, countOf, withThread, withCount, withField, withObject, emptyState, freeOf, othersFree, isFree, holdsNothing, lowestFree};
+ghost use Rattle.state.specs.State.{threadAt, countOf, withThread, fieldOf, withField, withObject, emptyState, freeOf, othersFree, isFree, holdsNothing, lowestFree};
 use threads::Thread;
 use values::Slot;
 
@@ -54,21 +54,6 @@ pub fn put_thread(s: State, i: u8, t: Thread) -> State
     next
 }
 
-// The one writer of counts and of held words.
-pub fn put_count(s: State, i: u8, o: u8, n: u16) -> State
-    ensures { λ r. ⌜ r ≡ withCount s i o n ⌝ }
-{
-    let mut next = s;
-    let j = i as usize;
-    let k = j * 32 + (o as usize);
-    if k < 256 {
-        next.counts[k] = n;
-        next.held[j] = held::mark(next.held[j], o, n);
-        return next;
-    }
-    next
-}
-
 pub fn put_field(s: State, o: u8, f: u8, x: Slot) -> State
     ensures { λ r. ⌜ r ≡ withField s o f x ⌝ }
 {
@@ -79,6 +64,17 @@ pub fn put_field(s: State, o: u8, f: u8, x: Slot) -> State
         return next;
     }
     next
+}
+
+pub fn field(fields: [Slot; 128], o: u8, f: u8) -> Slot
+    ensures { λ r. ⌜ r ≡ fieldOf fields o f ⌝ }
+{
+    let k = (o as usize) * 4 + (f as usize);
+    if k < 128 {
+        fields[k]
+    } else {
+        values::zero_slot()
+    }
 }
 
 // `first` is what the object's four field places hold.
@@ -142,13 +138,14 @@ pub fn holds_nothing(counts: &[u16], i: u8) -> bool
     true
 }
 
-pub fn lowest_free(s: State) -> u8
-    ensures { λ r. ⌜ r ≡ lowestFree s ⌝ }
+// Asked of the threads alone, so that the state is not copied.
+pub fn lowest_free(threads: [Thread; 8]) -> u8
+    ensures { λ r. ⌜ ((s : State) → s .threads ≡ threads → r ≡ lowestFree s) ⌝ }
 {
     let mut i: u8 = 0;
     while i < 8 {
         let k = i as usize;
-        if !s.threads[k].live {
+        if !threads[k].live {
             return i;
         }
         i += 1;

@@ -5,11 +5,8 @@ use Rattle.machine.proofs.moves.went_to.Tie as tie
 go-requires : tie.Need-go-requires
 go-requires c κs = search needs
 
-put-thread-requires : tie.Need-put-thread-requires
-put-thread-requires c κs = search needs
-
 returns : tie.Need-returns
-returns c = rw (c .put-thread .ensures, c .before .go .ensures)
+returns c = rw (c .go .ensures)
 
 pub went-to-spec : {M : Type 1} → statement M
-went-to-spec = tie.close (tie.spec go-requires put-thread-requires returns)
+went-to-spec = tie.close (tie.spec go-requires returns)

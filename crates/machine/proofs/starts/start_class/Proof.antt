@@ -9,13 +9,13 @@ class-at-requires c κs = search needs
 part-of-requires : tie.Need-part-of-requires
 part-of-requires c κs = search needs
 
-start-step-requires : tie.Need-start-step-requires
-start-step-requires c κs = search needs
+start-turn-requires : tie.Need-start-turn-requires
+start-turn-requires c κs = search needs
 
 returns : tie.Need-returns
 unfolding methodAt methodOf
-returns c = rw (c .start-step .ensures, c .before .part-of .ensures .0, c .before .before .class-at .ensures)
+returns c = λ P s i e. rw (← c .before .before .class-at .ensures, ← c .before .part-of .ensures .0) (c .start-turn .ensures P s i e)
 
 pub start-class-spec : {M : Type 1} → statement M
 start-class-spec =
-    tie.close (tie.spec class-at-requires part-of-requires start-step-requires returns)
+    tie.close (tie.spec class-at-requires part-of-requires start-turn-requires returns)
