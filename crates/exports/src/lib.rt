@@ -11,10 +11,10 @@ use history::Object;
 use state::State;
 use structure::Verdict;
 
-// A machine on its way, and its answers so far, mixed into one number.
+// A machine on its way, and its answers so far, mixed into one number. The number comes first: behind the state it would leave a gap, and the state would be copied once more.
 struct Running {
-    state: State,
     digest: u64,
+    state: State,
 }
 
 fn pack(v: Verdict) -> u64

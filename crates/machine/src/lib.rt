@@ -179,7 +179,7 @@ fn turn_of<'a>(
     exec(b, objects, counts, classes, i, t, k, x, fails)
 }
 
-// The state is read and written here alone, and each arm returns: so it is copied once on its way in and once on its way out.
+// An arm that writes in place and returns leaves the state copied once on its way in and once on its way out; new, putfield and start call what takes the state.
 fn run(b: &[u8], s: State, i: u8, fails: bool) -> Stepped
     requires { ⌜ (i < 8) × (readable (now b) ≡ true) × (stateOk (programOf (now b)) s ≡ true) ⌝ }
     ensures { λ r. ⌜ r ≡ stepOf (now (b .entry)) s i fails ⌝ }
