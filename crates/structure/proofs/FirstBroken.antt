@@ -6,12 +6,14 @@ use mathlib.Core.Bool.{true}
 use Prim.Native.Nat.{ℕ, _+_, _-_, _<_}
 use native.Mathlib.Omega.{arith}
 use Rattle.ground.specs.Lists.{each, In, firstBroken}
+use Rattle.ground.proofs.Chain.{then-stop}
 use Rattle.ground.proofs.Lists.{in-append, in-left, in-right, in-each, each-in, in-numbered, numbered-in}
 use Rattle.bundle.specs.Container.{classes, classAt, partOf}
 use Rattle.bundle.specs.Program.{methodOf, methodAt, programOf}
+use Rattle.structure.specs.declared.Verdict.{Verdict}
 use Rattle.structure.specs.Verdicts.{verdict, isBad, pass, Names}
 use Rattle.structure.specs.Places.{Place, whole, trailer, directory, limits, extent, descriptors, instruction, Within, headPlaces, shapePlaces, layoutPlaces, tablePlaces, structurePlaces, holds, drawn}
-use Rattle.structure.specs.Structure.{searched, layoutOf, structureOf, StructureJudges}
+use Rattle.structure.specs.Structure.{searched, headOf, layoutOf, structureOf, StructureJudges}
 use Rattle.structure.specs.Loops.{andThen, ascending, tableAt, tableOf}
 use Rattle.structure.proofs.Judges.{judges, search-then, search-last, search-each}
 
@@ -84,6 +86,10 @@ module _ (b : List ℕ) where
   structure-parts =
       search-then (holds b) drawn bad (verdict 0 (classes b) 0) (layoutPlaces b) (each (classes b) (tablePlaces b))
       ∙ ap (andThen (layoutOf b)) (search-last (holds b) drawn bad (verdict 0 (classes b) 0) (each (classes b) (tablePlaces b)))
+
+  -- what `head` finds is the first of all
+  pub head-first : {v : Verdict} → v ≡ headOf b → isBad v ≡ true → v ≡ structureOf b
+  head-first q e = rw structure-parts (then-stop _ _ _ (rw layout-parts (then-stop _ _ _ q e)) e)
 
   pub by-class : (f : ℕ → List Place) → ascending (classes b) (λ c. searched b (f c)) ≡ searched b (each (classes b) f)
   by-class f = sym (search-each (holds b) drawn bad (classes b) f)

@@ -8,11 +8,15 @@ use Rattle.ground.specs.Lists.{firstBroken}
 use Rattle.bundle.specs.Container.{classes, classAt, partOf, partPlace}
 use Rattle.structure.specs.declared.Verdict.{Verdict}
 use Rattle.structure.specs.Verdicts.{verdict, pass, Judges}
-use Rattle.structure.specs.Places.{Place, Within, layoutPlaces, structurePlaces, holds, drawn}
+use Rattle.structure.specs.Places.{Place, Within, headPlaces, layoutPlaces, structurePlaces, holds, drawn}
 
 -- the verdict of the first broken of some places, and `pass` where all hold
 abbrev pub searched : List ℕ → List Place → Verdict
 searched b places = firstBroken (holds b) drawn pass places
+
+-- 1 to 3
+abbrev pub headOf : List ℕ → Verdict
+headOf b = searched b headPlaces
 
 -- 1 to 6: where these pass, every record can be read
 unfoldable pub layoutOf : List ℕ → Verdict

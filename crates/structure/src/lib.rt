@@ -1,8 +1,8 @@
 // Verdicts 1 to 7 of document 01 in their order, and the search for a class's record.
 ghost use mathlib.Core.Path.{_≡_};
 ghost use Rattle.structure.specs.Conditions.{lengthOk, trailerOk, directoryOk, mainOk, codeOk, limitsOk, descriptorOk, descriptorsOk, addressOk};
-ghost use Rattle.structure.specs.Places.{headPlaces, shapePlaces, tablePlaces};
-ghost use Rattle.structure.specs.Structure.{searched, layoutOf, structureOf, recordOf, recordPlace};
+ghost use Rattle.structure.specs.Places.{shapePlaces, tablePlaces};
+ghost use Rattle.structure.specs.Structure.{searched, headOf, layoutOf, structureOf, recordOf, recordPlace};
 ghost use Rattle.structure.specs.Loops.{tableAt, tableOf};
 ghost use Rattle.ground.specs.Lists.{each};
 ghost use Rattle.ground.specs.Bytes.{Begins};
@@ -44,8 +44,9 @@ fn directory_ok(b: &[u8]) -> bool
         & (bundle::exception(b) < n)
 }
 
-fn head(b: &[u8]) -> Verdict
-    ensures { λ r. ⌜ r ≡ searched (now (b .entry)) headPlaces ⌝ }
+// Verdicts 1 to 3, told from the length and the last eight bytes alone.
+pub fn head(b: &[u8]) -> Verdict
+    ensures { λ r. ⌜ r ≡ headOf (now (b .entry)) ⌝ }
 {
     if !length_ok(b) {
         return Verdict {

@@ -162,8 +162,8 @@ fn rules_of_all(b: &[u8]) -> Verdict
     }
 }
 
-// The verdict on a bundle. The bundle is never written.
-pub fn verify(b: &[u8]) -> Verdict
+// All places.
+fn judge(b: &[u8]) -> Verdict
     ensures { λ o. ⌜ o ≡ verdictOf (now (b .entry)) ⌝ }
 {
     let u = structure::structure(b);
@@ -184,4 +184,15 @@ pub fn verify(b: &[u8]) -> Verdict
         address: 0,
         why: 0,
     }
+}
+
+// The verdict on a bundle. The bundle is never written. What its last bytes tell is asked for first, and then nothing is called.
+pub fn verify(b: &[u8]) -> Verdict
+    ensures { λ o. ⌜ o ≡ verdictOf (now (b .entry)) ⌝ }
+{
+    let u = structure::head(b);
+    if u.number != 0 {
+        return u;
+    }
+    judge(b)
 }
