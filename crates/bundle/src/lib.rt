@@ -37,10 +37,28 @@ pub fn exception(b: &[u8]) -> u8
     ground::byte(b, ground::back(b, 5))
 }
 
+// The eight bytes at d, where they are known to be there: no end is asked for.
+fn head_within(b: &[u8], d: usize) -> Class
+    requires { ⌜ (d < 1048576) × (d + 7 < length (now b)) ⌝ }
+    ensures { λ r. ⌜ r ≡ headAt (now (b .entry)) d ⌝ }
+{
+    Class {
+        offset: ground::join(b[d], b[d + 1]),
+        args: b[d + 2],
+        vars: b[d + 3],
+        limit: b[d + 4],
+        fields: b[d + 5],
+        code: ground::join(b[d + 6], b[d + 7]),
+    }
+}
+
 fn head_at(b: &[u8], d: usize) -> Class
     requires { ⌜ d < 1048576 ⌝ }
     ensures { λ r. ⌜ r ≡ headAt (now (b .entry)) d ⌝ }
 {
+    if d + 7 < b.len() {
+        return head_within(b, d);
+    }
     Class {
         offset: ground::word(b, d),
         args: ground::byte(b, d + 2),

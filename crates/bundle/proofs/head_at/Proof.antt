@@ -3,6 +3,15 @@ use borrow.Author.Needs.{needs}
 use Rattle.bundle.proofs.head_at.Statement.{statement}
 use Rattle.bundle.proofs.head_at.Tie as tie
 
+add-if1 : tie.Need-add-if1
+add-if1 c = search needs
+
+head-within-requires : tie.Need-head-within-requires
+head-within-requires c κs = search needs
+
+returns : tie.Need-returns
+returns c = c .head-within .ensures
+
 word-requires : tie.Need-word-requires
 word-requires c κs = search needs
 
@@ -36,14 +45,17 @@ add-word c = search needs
 word-requires-2 : tie.Need-word-requires-2
 word-requires-2 c κs = search needs
 
-returns : tie.Need-returns
+returns-2 : tie.Need-returns-2
 unfolding headAt
-returns c = rw (c .before .before .before .before .before .word .ensures, c .before .before .before .before .byte .ensures, c .before .before .before .byte2 .ensures, c .before .before .byte3 .ensures, c .before .byte4 .ensures, c .word2 .ensures)
+returns-2 c = rw (c .before .before .before .before .before .word .ensures, c .before .before .before .before .byte .ensures, c .before .before .before .byte2 .ensures, c .before .before .byte3 .ensures, c .before .byte4 .ensures, c .word2 .ensures)
 
 pub head-at-spec : {M : Type 1} → statement M
 head-at-spec =
     tie.close
     (tie.spec
+    add-if1
+    head-within-requires
+    returns
     word-requires
     add-byte
     byte-requires
@@ -55,4 +67,4 @@ head-at-spec =
     byte-requires-4
     add-word
     word-requires-2
-    returns)
+    returns-2)
