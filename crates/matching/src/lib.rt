@@ -29,7 +29,7 @@ pub fn depth_left(k: Class, r: &[u8], a: u8, p: u32) -> u16
 }
 
 // Most entries stay as they are: equal bytes fit, and only others are taken apart.
-fn word_short(n: u8, w: u32, v: u32) -> u8
+pub fn word_short(n: u8, w: u32, v: u32) -> u8
     ensures { λ o. ⌜ o ≡ compare (entryFrom n w) (want (entryFrom n v)) ⌝ }
 {
     if w == v {

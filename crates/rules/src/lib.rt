@@ -226,7 +226,7 @@ fn throw_rule(n: u8, k: Class, r: &[u8], x: u8, handler: u16, p: u32, h: u32) ->
     ensures { λ o. ⌜ o ≡ ruling (k .vars) (throwRule (k .vars) x handler (rowFrom n k (now (r .entry)) p) (rowFrom n k (now (r .entry)) h)) ⌝ }
 {
     let top = rows::stack_word(n, k, r, p, 0);
-    let t = entries::compare(n, top, rows::stack_word(n, k, r, h, 0));
+    let t = matching::word_short(n, top, rows::stack_word(n, k, r, h, 0));
     judged(
         (1 <= matching::depth_of(k, r, p))
             & entries::is_of(n, x, top)

@@ -10,8 +10,8 @@ stack-word-requires c κs = search needs
 stack-word-requires-2 : tie.Need-stack-word-requires-2
 stack-word-requires-2 c κs = search needs
 
-compare-requires : tie.Need-compare-requires
-compare-requires c κs = search needs
+word-short-requires : tie.Need-word-short-requires
+word-short-requires c κs = search needs
 
 depth-of-requires : tie.Need-depth-of-requires
 depth-of-requires c κs = search needs
@@ -35,7 +35,7 @@ judged-requires : tie.Need-judged-requires
 judged-requires c κs = search needs
 
 returns : tie.Need-returns
-returns c = (rw (c .before .thrown-short .ensures, c .before .before .throw-met .ensures, c .before .before .before .may-go .ensures, c .before .before .before .before .rest-goes .ensures, c .before .before .before .before .before .is-of .ensures, c .before .before .before .before .before .before .depth-of .ensures .0, c .before .before .before .before .before .before .before .compare .ensures, c .before .before .before .before .before .before .before .before .stack-word2 .ensures .1, c .before .before .before .before .before .before .before .before .before .stack-word .ensures .1) at (c .judged .ensures)) ∙ sym (throw-ruling _ _ _ _ _)
+returns c = (rw (c .before .thrown-short .ensures, c .before .before .throw-met .ensures, c .before .before .before .may-go .ensures, c .before .before .before .before .rest-goes .ensures, c .before .before .before .before .before .is-of .ensures, c .before .before .before .before .before .before .depth-of .ensures .0, c .before .before .before .before .before .before .before .word-short .ensures, c .before .before .before .before .before .before .before .before .stack-word2 .ensures .1, c .before .before .before .before .before .before .before .before .before .stack-word .ensures .1) at (c .judged .ensures)) ∙ sym (throw-ruling _ _ _ _ _)
 
 pub throw-rule-spec : {M : Type 1} → statement M
 throw-rule-spec =
@@ -43,7 +43,7 @@ throw-rule-spec =
     (tie.spec
     stack-word-requires
     stack-word-requires-2
-    compare-requires
+    word-short-requires
     depth-of-requires
     is-of-requires
     rest-goes-requires
