@@ -2,7 +2,7 @@
 //! them: equal numbers for equal answers.
 
 use reference::bundle::Bundle;
-use reference::machine::{answer, fresh, step, step_in, State};
+use reference::machine::{answer, fresh, step, step_in};
 use reference::slips::Slip;
 use trace::Turn;
 
@@ -14,7 +14,7 @@ pub fn mixed(digest: u64, answer: u8) -> u64 {
 /// The reference's digest of a schedule from the fresh machine. Each step
 /// looks at bundle and state for itself, as the proved step does.
 pub fn of_run(bundle: &[u8], schedule: &[u8]) -> u64 {
-    follow(bundle, schedule, |state, turn| {
+    follow(fresh(bundle), schedule, |state, turn| {
         step(bundle, state, turn.thread(), turn.fails())
     })
 }
@@ -22,7 +22,7 @@ pub fn of_run(bundle: &[u8], schedule: &[u8]) -> u64 {
 /// The same by a machine that makes this slip.
 pub fn of_slipped_run(bundle: &[u8], schedule: &[u8], slip: Slip) -> u64 {
     let opened = Bundle::open_with_code(bundle);
-    follow(bundle, schedule, |state, turn| match &opened {
+    follow(fresh(bundle), schedule, |state, turn| match &opened {
         Ok(opened) => slip.step(opened, state, turn.thread(), turn.fails()),
         Err(_) => answer::BAD_BUNDLE,
     })
@@ -43,8 +43,10 @@ pub fn of_turns(bundle: &[u8], turns: &[(u8, bool)]) -> u64 {
         })
 }
 
-fn follow(bundle: &[u8], schedule: &[u8], step: impl Fn(&mut State, Turn) -> u8) -> u64 {
-    let (first, mut state) = fresh(bundle);
+/// The digest of a schedule by a machine: what its fresh call gives, and its
+/// step.
+pub fn follow<S>(fresh: (u8, S), schedule: &[u8], step: impl Fn(&mut S, Turn) -> u8) -> u64 {
+    let (first, mut state) = fresh;
     schedule.iter().fold(u64::from(first), |digest, &byte| {
         mixed(digest, step(&mut state, Turn(byte)))
     })

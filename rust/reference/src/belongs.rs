@@ -1,8 +1,9 @@
 //! Whether a state is one of a bundle: answer 18.
 
 use crate::bundle::Bundle;
+use crate::known::Known;
 use crate::slips::{AsWritten, Law, Slip};
-use crate::state::{State, Thread, Value, MAX_COUNT, OBJECTS, OBJECT_0, THREADS};
+use crate::state::{State, Thread, Value, MAX_COUNT, OBJECTS, OBJECT_0};
 
 /// Whether the state is one of this bundle; if not, the answer is 18.
 pub fn belongs(bundle: &Bundle, state: &State) -> bool {
@@ -14,7 +15,9 @@ pub(crate) fn belongs_by<L: Law>(bundle: &Bundle, state: &State) -> bool {
     objects <= OBJECTS
         && state.objects > OBJECT_0
         && state.classes[usize::from(OBJECT_0)] == bundle.exception()
-        && state.classes[..objects]
+        && state
+            .classes
+            .known(..objects)
             .iter()
             .all(|&class| class < bundle.count())
         && state
@@ -22,8 +25,7 @@ pub(crate) fn belongs_by<L: Law>(bundle: &Bundle, state: &State) -> bool {
             .iter()
             .all(|t| !t.live || thread_belongs(bundle, t, state.objects))
         && (0..objects).all(|object| fields_belong(bundle, state, object))
-        && counts_belong(state)
-        && (0..THREADS).all(|thread| word_belongs::<L>(state, thread))
+        && counts_belong::<L>(state)
 }
 
 fn thread_belongs(bundle: &Bundle, thread: &Thread, objects: u8) -> bool {
@@ -34,14 +36,14 @@ fn thread_belongs(bundle: &Bundle, thread: &Thread, objects: u8) -> bool {
     let depth = usize::from(thread.depth);
     (1..=class.code_length()).contains(&thread.address)
         && depth <= class.stack_limit
-        && all_point_somewhere(&thread.variables[..class.variables], objects)
-        && all_point_somewhere(&thread.stack[..depth], objects)
+        && all_point_somewhere(thread.variables.known(..class.variables), objects)
+        && all_point_somewhere(thread.stack.known(..depth), objects)
 }
 
 /// The fields that the object's class uses refer to objects that there are.
 fn fields_belong(bundle: &Bundle, state: &State, object: usize) -> bool {
-    let used = bundle.class(state.classes[object]).fields.len();
-    all_point_somewhere(&state.fields_of(object)[..used], state.objects)
+    let used = bundle.class(*state.classes.known(object)).fields.len();
+    all_point_somewhere(state.fields_of(object).known(..used), state.objects)
 }
 
 /// No value is a reference to an object that there isn't.
@@ -50,28 +52,30 @@ fn all_point_somewhere(values: &[Value], objects: u8) -> bool {
     !values.any(|&value| matches!(value, Value::Ref(object) if object >= objects))
 }
 
-/// Counts are in bounds, by live threads, and an object that there is has at
-/// most one holder; one that there isn't has none.
-fn counts_belong(state: &State) -> bool {
-    let mut holders = [0; OBJECTS];
+/// Counts are in bounds, by live threads, and each of an object that there is
+/// and that no other thread holds; the words agree with them.
+fn counts_belong<L: Law>(state: &State) -> bool {
+    let mut holders = 0;
     for (number, thread) in state.threads.iter().enumerate() {
-        let counts = state.counts_of(number);
         let highest = if thread.live { MAX_COUNT } else { 0 };
-        if counts.iter().any(|&count| count > highest) {
+        let counts = state.counts_of(number).iter();
+        let word = state.word(number);
+        // Without an early end, so that many are compared at once.
+        if counts.fold(false, |any, &count| any | (count > highest))
+            || holders & word != 0
+            || !word_belongs::<L>(state, number, word)
+        {
             return false;
         }
-        for (holders, &count) in holders.iter_mut().zip(counts) {
-            *holders += u8::from(count > 0);
-        }
+        holders |= word;
     }
-    let (there, missing) = holders.split_at(usize::from(state.objects));
-    there.iter().all(|&holders| holders <= 1) && missing.iter().all(|&holders| holders == 0)
+    u64::from(holders) >> state.objects == 0
 }
 
 /// The word of a thread, live or not, has the bits of the objects that it holds
 /// by its counts, and no other.
-fn word_belongs<L: Law>(state: &State, thread: usize) -> bool {
-    let (word, right) = (state.held[thread], state.word(thread));
+fn word_belongs<L: Law>(state: &State, thread: usize, right: u32) -> bool {
+    let word = *state.held.known(thread);
     match L::SLIP {
         Some(Slip::IdleWordIgnored) => word == right || !state.threads[thread].live,
         Some(Slip::BitTooManyBelongs) => right & !word == 0,

@@ -2,6 +2,7 @@
 
 use crate::entries::Raw;
 use crate::instructions::{ends_path, Bounds, MAX_FIELDS};
+use crate::known::Known;
 use std::fmt::{self, Display, Formatter};
 
 pub use crate::instructions::{Addr, Field, Instr, Var};
@@ -119,6 +120,11 @@ fn two(bytes: &[u8], at: usize) -> usize {
     usize::from(u16::from_be_bytes([bytes[at], bytes[at + 1]]))
 }
 
+/// V entries, the depth, K entries.
+fn row_length(variables: usize, stack: usize) -> usize {
+    4 * variables + 1 + 4 * stack
+}
+
 impl Limits {
     fn read(entry: &[u8]) -> Limits {
         Limits {
@@ -142,7 +148,7 @@ impl Limits {
     }
 
     pub fn row_length(&self) -> usize {
-        4 * self.variables + 1 + 4 * self.stack
+        row_length(self.variables, self.stack)
     }
 
     pub fn record_length(&self) -> usize {
@@ -150,11 +156,23 @@ impl Limits {
     }
 }
 
+impl<'a> RawRow<'a> {
+    /// Reads the bytes of a row with so many variables.
+    fn read(row: &'a [u8], variables: usize) -> RawRow<'a> {
+        let (variables, rest) = row.split_known(4 * variables);
+        RawRow {
+            variables: variables.as_chunks().0,
+            depth: usize::from(*rest.known(0)),
+            stack: rest.known(1..).as_chunks().0,
+        }
+    }
+}
+
 impl<'a> Class<'a> {
     fn from_record(record: &'a [u8], limits: &Limits) -> Class<'a> {
-        let (arguments, rest) = record.split_at(limits.arguments);
-        let (fields, rest) = rest.split_at(limits.fields);
-        let (code, rows) = rest.split_at(4 * limits.code);
+        let (arguments, rest) = record.split_known(limits.arguments);
+        let (fields, rest) = rest.split_known(limits.fields);
+        let (code, rows) = rest.split_known(4 * limits.code);
         Class {
             offset: limits.offset,
             record,
@@ -172,16 +190,21 @@ impl<'a> Class<'a> {
         self.code.len() as u16
     }
 
+    fn row_length(&self) -> usize {
+        row_length(self.variables, self.stack_limit)
+    }
+
+    /// All rows, from address 1 on.
+    pub fn raw_rows(&self) -> impl Iterator<Item = RawRow<'a>> + use<'a> {
+        let variables = self.variables;
+        let rows = self.rows.chunks_exact(self.row_length());
+        rows.map(move |row| RawRow::read(row, variables))
+    }
+
     pub fn raw_row(&self, address: Addr) -> RawRow<'a> {
-        let length = 4 * self.variables + 1 + 4 * self.stack_limit;
+        let length = self.row_length();
         let start = usize::from(address.0 - 1) * length;
-        let row = &self.rows[start..start + length];
-        let (variables, rest) = row.split_at(4 * self.variables);
-        RawRow {
-            variables: variables.as_chunks().0,
-            depth: usize::from(rest[0]),
-            stack: rest[1..].as_chunks().0,
-        }
+        RawRow::read(self.rows.known(start..start + length), self.variables)
     }
 
     /// A row that verdict 8 has found well formed.
@@ -189,7 +212,7 @@ impl<'a> Class<'a> {
         let raw = self.raw_row(address);
         Row {
             variables: raw.variables,
-            stack: &raw.stack[..raw.depth],
+            stack: raw.stack.known(..raw.depth),
         }
     }
 
@@ -207,9 +230,11 @@ impl<'a> Class<'a> {
         }
     }
 
-    /// The instruction at an address of code that verdict 7 has passed.
+    /// The instruction at an address of code that verdict 7 has passed. Inlined,
+    /// so that it is told and acted upon by one jump, not by two.
+    #[inline(always)]
     pub fn instruction(&self, address: Addr) -> Instr {
-        Instr::read(self.code[usize::from(address.0 - 1)])
+        Instr::read(*self.code.known(usize::from(address.0 - 1)))
     }
 }
 
@@ -270,12 +295,17 @@ impl<'a> Bundle<'a> {
     }
 
     pub fn class(&self, number: u8) -> &Class<'a> {
-        &self.classes[..usize::from(self.count)][usize::from(number)]
+        self.classes
+            .known(..usize::from(self.count))
+            .known(usize::from(number))
     }
 
     /// What a field may hold: Int, or references of a class.
     pub fn descriptor(&self, field: Field) -> u8 {
-        self.class(field.class).fields[usize::from(field.number)]
+        *self
+            .class(field.class)
+            .fields
+            .known(usize::from(field.number))
     }
 
     pub fn classes(&self) -> impl Iterator<Item = (u8, &Class<'a>)> {

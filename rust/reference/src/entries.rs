@@ -104,17 +104,27 @@ impl Pair {
     }
 }
 
+/// By an entry's first byte, the bits of all four that are never set.
+const NEVER_SET: [u32; 256] = {
+    let mut never = [u32::MAX; 256];
+    never[kind::INT as usize] = 0x00FF_FFFF;
+    never[kind::TOP as usize] = 0x00FF_FFFF;
+    // A dip of 0..63 and an end byte up to 127.
+    never[kind::REFERENCE as usize] = 0x0000_C080;
+    never[kind::NULLABLE as usize] = 0x0000_FFFF;
+    never
+};
+
 /// Whether the four bytes are Int, Top or a reference to one of the bundle's
 /// `classes`, which may be null or not; anything else draws verdict 8.
 pub fn well_formed(raw: Raw, classes: u8) -> bool {
-    let [first, class, dip, end] = raw;
-    // Kinds follow no pattern, so the tests are joined without branches.
-    let plain = (first == kind::INT) | (first == kind::TOP);
-    let reference = (class < classes) & (dip <= 63) & (1..=127).contains(&end);
-    let nullable = (class < classes) & (dip | end == 0);
-    (plain & (class | dip | end == 0))
-        | ((first == kind::REFERENCE) & reference)
-        | ((first == kind::NULLABLE) & nullable)
+    let [first, class, _, end] = raw;
+    // Kinds follow no pattern, so they are looked up, not branched on. Only a
+    // reference has an end byte, and none that is 0.
+    (u32::from_be_bytes(raw) & NEVER_SET[usize::from(first)] == 0)
+        & (raw != UNUSED)
+        & (class < classes)
+        & ((end != 0) == (first == kind::REFERENCE))
 }
 
 impl Entry {
@@ -244,11 +254,9 @@ fn owing_fits<L: Law>(next: Entry) -> bool {
 
 /// Each entry fits its place; else what is short at the first that doesn't.
 /// Both sides have equally many.
+#[inline]
 pub fn all_fit<L: Law>(row: &[Raw], next: &[Raw]) -> Outcome {
     // Fits is reflexive, and most entries stay as they are: equal bytes suffice.
-    if row == next {
-        return Ok(());
-    }
     row.iter().zip(next).try_for_each(|(&a, &b)| match a == b {
         true => Ok(()),
         false => Entry::read(a).compare::<L>(Entry::read(b)),

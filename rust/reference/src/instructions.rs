@@ -170,7 +170,8 @@ impl Instr {
         self.bytes()[0]
     }
 
-    /// Reads four bytes that keep to the table.
+    /// Reads four bytes that keep to the table; inlined with what acts on them.
+    #[inline(always)]
     pub fn read(raw: Raw) -> Instr {
         let [opcode, operand, high, low] = raw;
         let address = u16::from_be_bytes([high, low]);

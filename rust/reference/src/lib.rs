@@ -9,6 +9,7 @@ pub mod bundle;
 pub mod entries;
 pub mod history;
 pub mod instructions;
+mod known;
 pub mod machine;
 pub mod met;
 pub mod rules;

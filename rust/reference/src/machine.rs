@@ -4,6 +4,7 @@
 use crate::belongs::belongs_by;
 use crate::bundle::{Addr, Bundle, Class, Field, Instr, Var, INT};
 use crate::instructions::MAX_FIELDS;
+use crate::known::Known;
 use crate::slips::{AsWritten, Law, Slip};
 use crate::state::{MAX_COUNT, OBJECTS, OBJECT_0, PLACES, THREADS};
 use std::marker::PhantomData;
@@ -117,7 +118,7 @@ impl<L: Law> Turn<'_, L> {
     /// Looks for a refusal first and only then writes, so that a refused
     /// state stays as given.
     fn take(&self, state: &mut State) -> u8 {
-        let thread = &state.threads[self.mover];
+        let thread = self.thread(state);
         let class = self.bundle.class(thread.class);
         let instr = class.instruction(Addr(thread.address));
         match self.refusal(state, class, instr) {
@@ -164,7 +165,11 @@ impl<L: Law> Turn<'_, L> {
     }
 
     fn thread<'s>(&self, state: &'s State) -> &'s Thread {
-        &state.threads[self.mover]
+        state.threads.known(self.mover)
+    }
+
+    fn thread_mut<'s>(&self, state: &'s mut State) -> &'s mut Thread {
+        state.threads.known_mut(self.mover)
     }
 
     fn wants(&self, state: &State, entries: usize) -> Result<(), u8> {
@@ -204,7 +209,7 @@ impl<L: Law> Turn<'_, L> {
 
     /// The object whose count monitorenter or monitorexit moves; none is null.
     fn locked(&self, state: &State, v: Var) -> Result<Option<usize>, u8> {
-        match self.thread(state).variables[usize::from(v.0)] {
+        match self.thread(state).variable(v) {
             Value::Ref(_) if L::slips(Slip::CountByVariable) => Ok(Some(usize::from(v.0))),
             Value::Ref(object) => Ok(Some(usize::from(object))),
             Value::Null => Ok(None),
@@ -292,11 +297,11 @@ impl<L: Law> Turn<'_, L> {
                 return answer::RETURNED;
             }
             own => {
-                self.compute(&mut state.threads[self.mover], own);
+                self.compute(self.thread_mut(state), own);
                 return answer::WENT_ON;
             }
         }
-        state.threads[self.mover].address += 1;
+        self.thread_mut(state).address += 1;
         answer::WENT_ON
     }
 
@@ -307,10 +312,7 @@ impl<L: Law> Turn<'_, L> {
         let (fails, handler) = match instr {
             Instr::Athrow(handler) => return Some((thread.peek(0), handler)),
             Instr::New(_, handler) => (self.new_fails(state), handler),
-            Instr::Enter(v, handler) => {
-                let variable = thread.variables[usize::from(v.0)];
-                (variable == Value::Null, handler)
-            }
+            Instr::Enter(v, handler) => (thread.variable(v) == Value::Null, handler),
             Instr::Getfield(_, handler) => (thread.peek(0) == Value::Null, handler),
             Instr::Putfield(_, handler) => (thread.peek(1) == Value::Null, handler),
             _ => return None,
@@ -331,8 +333,11 @@ impl<L: Law> Turn<'_, L> {
                 thread.pop();
             }
             Instr::Push0 => thread.push(Value::ZERO),
-            Instr::Load(v) => thread.push(thread.variables[usize::from(v.0)]),
-            Instr::Store(v) => thread.variables[usize::from(v.0)] = thread.pop(),
+            Instr::Load(v) => thread.push(thread.variable(v)),
+            Instr::Store(v) => {
+                let value = thread.pop();
+                *thread.variables.known_mut(usize::from(v.0)) = value;
+            }
             Instr::If(target) => {
                 if thread.pop() != Value::ZERO {
                     next = target.0;
@@ -345,11 +350,11 @@ impl<L: Law> Turn<'_, L> {
 
     fn move_count(&self, state: &mut State, v: Var, change: impl Fn(u16) -> u16) {
         if let Ok(Some(object)) = self.locked(state, v) {
-            let count = &mut state.counts[self.mover * OBJECTS + object];
+            let count = state.counts.known_mut(self.mover * OBJECTS + object);
             let before = std::mem::replace(count, change(*count));
             let exits = *count < before;
             let word = state.word(self.mover);
-            state.held[self.mover] = match L::SLIP {
+            *state.held.known_mut(self.mover) = match L::SLIP {
                 Some(Slip::BitOfAnotherObject) => word.rotate_left(1),
                 Some(Slip::ExitClearsBit) if exits => word & !(1 << object),
                 _ => word,
@@ -362,22 +367,22 @@ impl<L: Law> Turn<'_, L> {
         if !L::slips(Slip::NewLeavesFields) {
             state.unset_fields(object, self.bundle.class(class));
         }
-        state.threads[self.mover].push(Value::Ref(object));
+        self.thread_mut(state).push(Value::Ref(object));
     }
 
     /// The owner makes way for what its field holds.
     fn getfield(&self, state: &mut State, field: Field) {
-        if let Value::Ref(owner) = state.threads[self.mover].pop() {
-            let value = state.fields[place(owner, field)];
-            state.threads[self.mover].push(value);
+        if let Value::Ref(owner) = self.thread_mut(state).pop() {
+            let value = *state.fields.known(place(owner, field));
+            self.thread_mut(state).push(value);
         }
     }
 
     fn putfield(&self, state: &mut State, field: Field) {
-        let thread = &mut state.threads[self.mover];
+        let thread = self.thread_mut(state);
         let value = thread.pop();
         if let Value::Ref(owner) = thread.pop() {
-            state.fields[place(owner, field)] = value;
+            *state.fields.known_mut(place(owner, field)) = value;
         }
     }
 
@@ -387,19 +392,19 @@ impl<L: Law> Turn<'_, L> {
             return;
         };
         let mut variables = [Value::ZERO; PLACES];
-        let starter = &mut state.threads[self.mover];
-        for variable in &mut variables[..self.bundle.class(class).arguments.len()] {
+        let starter = self.thread_mut(state);
+        for variable in variables.known_mut(..self.bundle.class(class).arguments.len()) {
             *variable = starter.pop();
         }
         starter.pop();
-        let stack = state.threads[free].stack;
-        state.threads[free] = Thread {
+        let thread = state.threads.known_mut(free);
+        *thread = Thread {
             live: true,
             class,
             address: 1,
             depth: 0,
             variables,
-            stack,
+            ..*thread
         };
     }
 
@@ -409,7 +414,7 @@ impl<L: Law> Turn<'_, L> {
             self.end(state, class);
             return answer::UNCAUGHT;
         };
-        let thread = &mut state.threads[self.mover];
+        let thread = self.thread_mut(state);
         thread.empty_stack();
         thread.push(thrown);
         thread.address = address.0;
@@ -418,9 +423,12 @@ impl<L: Law> Turn<'_, L> {
 
     /// Only places in use become 0; the others keep what they held.
     fn end(&self, state: &mut State, class: &Class) {
-        let thread = &mut state.threads[self.mover];
+        let thread = self.thread_mut(state);
         thread.empty_stack();
-        thread.variables[..class.variables].fill(Value::ZERO);
+        thread
+            .variables
+            .known_mut(..class.variables)
+            .fill(Value::ZERO);
         thread.live = false;
         thread.class = 0;
         thread.address = 0;

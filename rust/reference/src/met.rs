@@ -36,7 +36,7 @@ pub(crate) fn met_by<L: Law>(bundle: &Bundle, state: &State, thread: u8) -> Opti
 /// object, and no other instruction moves a count.
 fn object<L: Law>(bundle: &Bundle, thread: &Thread, instr: Instr) -> Option<u8> {
     let value = match instr {
-        Instr::Enter(v, _) | Instr::Exit(v) => thread.variables[usize::from(v.0)],
+        Instr::Enter(v, _) | Instr::Exit(v) => thread.variable(v),
         Instr::Start(class) if L::slips(Slip::StartMeetsObject) => {
             let arguments = bundle.class(class).arguments.len();
             let place = usize::from(thread.depth).checked_sub(arguments + 1)?;

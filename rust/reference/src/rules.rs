@@ -7,13 +7,14 @@
 
 use crate::bundle::{Addr, Bundle, Class, Field, Instr, Row, Var, INT};
 use crate::entries::{all_fit, all_may_go, ask, Entry, Outcome, Pair, Raw, Why, MAX_WEIGHT};
+use crate::known::Known;
 use crate::slips::{Law, Slip};
 use crate::throws::Throw;
 
 /// Row 1: depth 0, arguments fit their variables, the others are exactly Top.
 pub fn first_row_holds(class: &Class) -> bool {
     let row = class.row(Addr(1));
-    let (given, others) = row.variables.split_at(class.arguments.len());
+    let (given, others) = row.variables.split_known(class.arguments.len());
     let arguments_fit = class
         .arguments
         .iter()
@@ -103,13 +104,17 @@ fn variables_fit<L: Law>(row: Row, next: Row) -> Outcome {
 /// The variables in their order, `v` by a comparison of its own.
 fn variables_fit_but<L: Law>(row: Row, next: Row, v: Var, own: Outcome) -> Outcome {
     let at = usize::from(v.0);
-    all_fit::<L>(&row.variables[..at], &next.variables[..at])?;
+    all_fit::<L>(row.variables.known(..at), next.variables.known(..at))?;
     own?;
-    all_fit::<L>(&row.variables[at + 1..], &next.variables[at + 1..])
+    let (rest, next_rest) = (
+        row.variables.known(at + 1..),
+        next.variables.known(at + 1..),
+    );
+    all_fit::<L>(rest, next_rest)
 }
 
 fn entry_at(row: Row, v: Var) -> Entry {
-    Entry::read(row.variables[usize::from(v.0)])
+    Entry::read(*row.variables.known(usize::from(v.0)))
 }
 
 fn inc<L: Law>(row: Row, next: Row) -> Outcome {

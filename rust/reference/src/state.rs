@@ -1,8 +1,9 @@
 //! What the machine moves: values, threads, counts and held words, objects and
 //! their fields.
 
-use crate::bundle::{Class, INT};
+use crate::bundle::{Class, Var, INT};
 use crate::instructions::MAX_FIELDS;
+use crate::known::Known;
 
 pub const THREADS: usize = 8;
 pub const OBJECTS: usize = 32;
@@ -69,24 +70,30 @@ impl Thread {
     };
 
     pub(crate) fn push(&mut self, value: Value) {
-        self.stack[usize::from(self.depth)] = value;
+        *self.stack.known_mut(usize::from(self.depth)) = value;
         self.depth += 1;
     }
 
     /// Takes the top; its place falls out of use.
     pub(crate) fn pop(&mut self) -> Value {
         self.depth -= 1;
-        std::mem::replace(&mut self.stack[usize::from(self.depth)], Value::ZERO)
+        std::mem::replace(self.stack.known_mut(usize::from(self.depth)), Value::ZERO)
     }
 
     pub(crate) fn empty_stack(&mut self) {
-        self.stack[..usize::from(self.depth)].fill(Value::ZERO);
+        self.stack
+            .known_mut(..usize::from(self.depth))
+            .fill(Value::ZERO);
         self.depth = 0;
+    }
+
+    pub(crate) fn variable(&self, v: Var) -> Value {
+        *self.variables.known(usize::from(v.0))
     }
 
     /// The value `below` places under the top.
     pub(crate) fn peek(&self, below: usize) -> Value {
-        self.stack[usize::from(self.depth) - 1 - below]
+        *self.stack.known(usize::from(self.depth) - 1 - below)
     }
 }
 
@@ -102,12 +109,12 @@ impl State {
     };
 
     pub fn count(&self, thread: usize, object: usize) -> u16 {
-        self.counts[thread * OBJECTS + object]
+        *self.counts.known(thread * OBJECTS + object)
     }
 
     /// The thread's counts, one for each object.
     pub fn counts_of(&self, thread: usize) -> &[u16] {
-        &self.counts[thread * OBJECTS..(thread + 1) * OBJECTS]
+        self.counts.known(thread * OBJECTS..(thread + 1) * OBJECTS)
     }
 
     /// How many objects the thread holds, by its counts.
@@ -132,13 +139,14 @@ impl State {
 
     /// An object's four field places.
     pub fn fields_of(&self, object: usize) -> &[Value] {
-        &self.fields[object * MAX_FIELDS..(object + 1) * MAX_FIELDS]
+        self.fields
+            .known(object * MAX_FIELDS..(object + 1) * MAX_FIELDS)
     }
 
     /// One more object of this class; gives its number.
     pub(crate) fn add_object(&mut self, class: u8) -> u8 {
         let object = self.objects;
-        self.classes[usize::from(object)] = class;
+        *self.classes.known_mut(usize::from(object)) = class;
         self.objects += 1;
         object
     }
@@ -154,6 +162,6 @@ impl State {
     }
 
     pub(crate) fn is_of_class(&self, value: Value, class: u8) -> bool {
-        matches!(value, Value::Ref(o) if self.classes[usize::from(o)] == class)
+        matches!(value, Value::Ref(o) if *self.classes.known(usize::from(o)) == class)
     }
 }

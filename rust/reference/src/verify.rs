@@ -1,6 +1,6 @@
 //! The verifier: every verdict in the document's order.
 
-use crate::bundle::{Addr, Bundle, Class};
+use crate::bundle::{Addr, Bundle, RawRow};
 use crate::entries::{well_formed, UNUSED};
 use crate::rules;
 use crate::slips::{AsWritten, Law};
@@ -29,8 +29,8 @@ fn judge<L: Law>(b: &[u8]) -> Result<u8, Verdict> {
 /// Verdict 8 over all classes and addresses.
 fn check_rows(bundle: &Bundle) -> Result<(), Verdict> {
     for (number, class) in bundle.classes() {
-        for address in 1..=class.code_length() {
-            if !row_well_formed(class, Addr(address), bundle.count()) {
+        for (address, row) in (1..).zip(class.raw_rows()) {
+            if !row_well_formed(row, bundle.count()) {
                 return Err(Verdict::new(8, number, address));
             }
         }
@@ -38,14 +38,14 @@ fn check_rows(bundle: &Bundle) -> Result<(), Verdict> {
     Ok(())
 }
 
-fn row_well_formed(class: &Class, address: Addr, classes: u8) -> bool {
-    let row = class.raw_row(address);
+fn row_well_formed(row: RawRow, classes: u8) -> bool {
     let Some((used, unused)) = row.stack.split_at_checked(row.depth) else {
         return false;
     };
+    // The unused ones without an early end, so that many are compared at once.
     row.variables.iter().all(|&raw| well_formed(raw, classes))
         && used.iter().all(|&raw| well_formed(raw, classes))
-        && unused.iter().all(|&raw| raw == UNUSED)
+        && unused.iter().fold(true, |all, &raw| all & (raw == UNUSED))
 }
 
 /// Class by class, verdict 10 and then verdict 9.

@@ -8,8 +8,8 @@ use reference::entries::{kind, Entry, END_BIAS};
 use reference::verify::{verify, Verdict};
 
 const MAX_CODE: usize = 256;
-/// What one instruction of a striped method takes, with its row of V 4, K 3.
-const STRIPE_INSTRUCTION: usize = 4 + 4 * 4 + 1 + 4 * 3;
+/// V and K of striped methods that needn't be wider.
+const NARROW: (usize, usize) = (4, 3);
 
 /// Accepted bundles of several classes and about `bytes`, by trial.
 pub fn typical(bytes: usize, wanted: usize) -> Vec<Vec<u8>> {
@@ -77,19 +77,30 @@ pub fn refused_early(bundle: &[u8]) -> Vec<u8> {
     out
 }
 
-/// Code and rows written side by side.
-#[derive(Default)]
+/// Code and rows written side by side, with V and K.
 struct Stripe {
+    variables: usize,
+    stack_limit: usize,
     code: Vec<Instr>,
     rows: Vec<Row>,
 }
 
 impl Stripe {
+    fn new((variables, stack_limit): (usize, usize)) -> Stripe {
+        Stripe {
+            variables,
+            stack_limit,
+            code: vec![],
+            rows: vec![],
+        }
+    }
+
+    /// An instruction and its row: all variables but the first two are Top.
     fn add(&mut self, instr: Instr, variables: [Entry; 2], stack: &[Entry]) {
-        let [a, b] = variables;
+        let mut all = variables.to_vec();
+        all.resize(self.variables, Entry::Top);
         self.code.push(instr);
-        self.rows
-            .push(Row::new(&[a, b, Entry::Top, Entry::Top], stack));
+        self.rows.push(Row::new(&all, stack));
     }
 
     /// An object in variable 0, an integer in variable 1: four instructions.
@@ -120,8 +131,8 @@ impl Stripe {
     fn end(mut self, instr: Instr, stack: &[Entry]) -> Method {
         self.add(instr, [Entry::fresh(0), Entry::Int], stack);
         Method {
-            variables: 4,
-            stack_limit: 3,
+            variables: self.variables,
+            stack_limit: self.stack_limit,
             code: self.code,
             rows: self.rows,
             ..Method::default()
@@ -131,15 +142,16 @@ impl Stripe {
 
 /// An accepted bundle of at most `bytes` whose code is one block again and
 /// again, so that only the size differs from one to the next.
-pub fn striped(bytes: usize) -> Vec<u8> {
-    let total = (bytes - TRAILER - 8 * DIRECTORY_ENTRY) / STRIPE_INSTRUCTION;
+pub fn striped(bytes: usize, variables: usize, stack_limit: usize) -> Vec<u8> {
+    let instruction = 4 + 4 * variables + 1 + 4 * stack_limit;
+    let total = (bytes - TRAILER - 8 * DIRECTORY_ENTRY) / instruction;
     let classes = total.div_ceil(MAX_CODE);
-    let method = striped_method(total / classes);
+    let method = striped_method(total / classes, (variables, stack_limit));
     lay_out(&vec![method; classes])
 }
 
-fn striped_method(length: usize) -> Method {
-    let mut stripe = Stripe::default();
+fn striped_method(length: usize, size: (usize, usize)) -> Method {
+    let mut stripe = Stripe::new(size);
     stripe.begin();
     while stripe.code.len() + 10 <= length {
         stripe.block();
@@ -154,7 +166,7 @@ const STARTED: u8 = 1;
 /// object to a handler before the block, again and again.
 fn endless_method(starts: usize) -> Method {
     let (free, at_rest) = (Entry::fresh(0), [Entry::fresh(0), Entry::Int]);
-    let mut stripe = Stripe::default();
+    let mut stripe = Stripe::new(NARROW);
     stripe.begin();
     for _ in 0..starts {
         stripe.add(Instr::New(STARTED, None), at_rest, &[]);
@@ -172,7 +184,7 @@ fn endless_method(starts: usize) -> Method {
 /// classes.
 pub fn endless(threads: usize, others: usize) -> Vec<u8> {
     let mut methods = vec![endless_method(threads - 1), endless_method(0)];
-    methods.extend(vec![striped_method(250); others]);
+    methods.extend(vec![striped_method(250, NARROW); others]);
     lay_out(&methods)
 }
 

@@ -3,7 +3,7 @@
 use std::process::Command;
 
 /// The workspace's own words on how the Rust side is compiled.
-const WORKSPACE: &str = include_str!("../../../../Cargo.toml");
+const WORKSPACE: &str = include_str!("../../Cargo.toml");
 
 /// What `rattle build --help` says of every static library.
 const RATTLE: &str = "one LLVM module, clang -O3, for x86-64";
