@@ -22,8 +22,8 @@ use Rattle.machine.specs.Machine.{stepOf}
 use Rattle.machine.proofs.Refusals.{either, methodHere, instructionHere, step-by}
 
 -- ---- a move
-record Moves (r : Stepped) : Type 0 where
-  small : r .answer ≤ 2
+pub record Moves (r : Stepped) : Type 0 where
+  pub small : r .answer ≤ 2
 
 module _ (P : Program) (s : State) (i : ℕ) (t : Thread) (m : Method) (fails : Bool) where
   went : (u : State) → Moves (record { answer = 0; state = u })
@@ -32,7 +32,7 @@ module _ (P : Program) (s : State) (i : ℕ) (t : Thread) (m : Method) (fails : 
   throw-moves : (h : Addr) (x : Slot) → Moves (throwMove s i t (m .vars) h x)
   throw-moves h x = either Moves (eqb (h .0) 0) _ _ (λ _. record { small = omega arith }) (λ _. went _)
 
-  moves : (x : Instruction) → Moves (moveOf P s i t m fails x)
+  pub moves : (x : Instruction) → Moves (moveOf P s i t m fails x)
   moves Inc = went _
   moves Pop = went _
   moves Push0 = went _

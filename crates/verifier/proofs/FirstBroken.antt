@@ -25,7 +25,7 @@ use Rattle.verifier.specs.Places.{Place, structural, form, first, rule, 
 use Rattle.verifier.specs.Verdict.{verdictOf, VerdictJudges, Agrees, AgreesBack}
 use Rattle.verifier.specs.Loops.{searched, formAt, formsOf, ruleVerdict, rulesOf}
 
-bad : (b : List ℕ) (p : Place) → isBad (drawn b p) ≡ true
+pub bad : (b : List ℕ) (p : Place) → isBad (drawn b p) ≡ true
 bad b (structural p) = structure.bad p
 bad b (form c l) = refl
 bad b (first c) = refl

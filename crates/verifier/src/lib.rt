@@ -71,7 +71,8 @@ fn forms_of_class(b: &[u8], c: u8) -> Verdict
     forms_of(bundle::classes(b), c, k, bundle::part_of(b, k))
 }
 
-fn forms_of_all(b: &[u8]) -> Verdict
+// Verdict 8 over all classes and addresses: the first malformed row's, and 0 where there is none.
+pub fn forms_of_all(b: &[u8]) -> Verdict
     ensures { λ o. ⌜ o ≡ searched (now (b .entry)) (each (classes (now (b .entry))) (formPlaces (now (b .entry)))) ⌝ }
 {
     let n = bundle::classes(b);

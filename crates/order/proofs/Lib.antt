@@ -1,0 +1,4 @@
+pub mod Order
+pub mod FirstBroken
+pub mod Accepts
+pub mod Agrees

@@ -1,0 +1,1 @@
+// The promise of a lock order is a theorem: see proofs/. This crate has no code of its own.
