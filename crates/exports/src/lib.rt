@@ -4,6 +4,7 @@ mod texts;
 ghost use mathlib.Core.Path.{_≡_};
 ghost use Prim.Native.Nat.{_≤_, _<_};
 ghost use Rattle.verifier.specs.Verdict.{verdictOf};
+ghost use Rattle.order.specs.Verdict.{orderedVerdictOf};
 ghost use Rattle.machine.specs.Machine.{stepOf};
 ghost use Rattle.exports.specs.Exports.{packed, packedRecord, packedHeld, objectNumber, packedMet, advanced, scheduled, digestOf, answersOf, metAfter};
 use history::Met;
@@ -32,6 +33,14 @@ pub extern "C" fn hveitmar_verdict(b: &[u8]) -> u64
     ensures { λ r. ⌜ r ≡ packed (verdictOf (now (b .entry))) ⌝ }
 {
     pack(verifier::verify(b))
+}
+
+// .. under the lock order that the levels give: levels has eight bytes, byte c is class c's level; any other length is 26, before all else.
+#[no_mangle]
+pub extern "C" fn hveitmar_ordered(b: &[u8], levels: &[u8]) -> u64
+    ensures { λ r. ⌜ r ≡ packed (orderedVerdictOf (now (b .entry)) (now (levels .entry))) ⌝ }
+{
+    pack(order::verify_ordered(b, levels))
 }
 
 // The record of a class: its offset in the low half, its length in the upper; 0 where there is none.
