@@ -3,3 +3,4 @@ pub mod Runs
 pub mod Slips
 pub mod FieldSlips
 pub mod Histories
+pub mod Orders
