@@ -3,6 +3,8 @@
 mod build;
 mod check;
 mod explain;
+mod levels;
+mod order;
 mod show;
 mod trace;
 mod usage;
@@ -24,10 +26,11 @@ struct Command {
 }
 
 /// Every command, in the order in which the help lists them.
-const COMMANDS: [Command; 6] = [
+const COMMANDS: [Command; 7] = [
     check::COMMAND,
     show::COMMAND,
     explain::COMMAND,
+    order::COMMAND,
     trace::COMMAND,
     usage::COMMAND,
     build::COMMAND,

@@ -35,7 +35,7 @@ fn every_example_comes_out_as_it_stands() {
         let ran = tool(&words, &[]);
         assert_eq!((ran.err + &ran.out).trim(), shown, "{words:?}");
     }
-    for command in ["check", "show", "explain", "trace", "usage"] {
+    for command in ["check", "show", "explain", "trace", "order", "usage"] {
         assert!(examples.iter().any(|(words, _)| words.starts_with(command)));
     }
 }

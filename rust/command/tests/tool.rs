@@ -8,7 +8,9 @@ use std::path::PathBuf;
 
 const A: &str = "cases/a.bundle";
 const B: &str = "cases/b.bundle";
-const COMMANDS: [&str; 6] = ["check", "show", "explain", "trace", "usage", "build"];
+const COMMANDS: [&str; 7] = [
+    "check", "show", "explain", "order", "trace", "usage", "build",
+];
 
 /// A file of these bytes; its name is a test's own.
 fn file(name: &str, bytes: &[u8]) -> String {
@@ -60,7 +62,7 @@ fn a_file_that_cannot_be_read_does_not_keep_others_from_it() {
 fn files_that_cannot_be_read() {
     // Whoever reads the memory at address 0 fails, root too.
     for name in ["no such file", "cases", "/proc/self/mem"] {
-        for command in ["check", "show", "explain", "trace"] {
+        for command in ["check", "show", "explain", "order", "trace"] {
             is_complaint(&tool(&[command, name], &[]), name);
         }
     }
@@ -115,10 +117,8 @@ fn bad_command_lines() {
     is_complaint(&tool(&["no-such"], &[]), "neither a command nor a file");
     is_complaint(&tool(&["check"], &[]), "no file");
     is_complaint(&tool(&["check", "--fast", A], &[]), "unknown option --fast");
-    for command in ["show", "explain"] {
-        is_complaint(&tool(&[command], &[]), "no file");
-        is_complaint(&tool(&[command, A, B], &[]), "more than one file");
-    }
+    is_complaint(&tool(&["show"], &[]), "no file");
+    is_complaint(&tool(&["show", A, B], &[]), "more than one file");
     is_complaint(&tool(&["trace"], &[]), "no file");
     is_complaint(&tool(&["trace", A, "0", "x"], &[]), "x is no step");
     is_complaint(&tool(&["trace", A, "16"], &[]), "16 is no step");
@@ -136,7 +136,7 @@ fn every_command_has_help() {
         assert_eq!((ran.err.as_str(), ran.status), ("", Some(0)));
         assert!(overview.out.contains(&format!("hveitmar {command}")));
     }
-    for command in ["explain", "trace", "usage"] {
+    for command in ["explain", "order", "trace", "usage"] {
         let help = tool(&[command, "--help"], &[]).out;
         assert!(help.contains("tested, not proved"));
     }

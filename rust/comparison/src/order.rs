@@ -19,21 +19,21 @@ pub struct Order {
 }
 
 /// Which of two breaches is told: 1, 2, 3; then class by class 4, 5, 6; then
-/// all 7; all 8; then class by class 10 and 9.
-fn rank(verdict: &Verdict) -> [u16; 4] {
+/// all 7; all 8; then class by class 10 and, address by address, 9 and 25.
+pub(crate) fn rank(verdict: &Verdict) -> [u16; 5] {
     let Verdict { class, address, .. } = *verdict;
     let (number, class) = (u16::from(verdict.number), u16::from(class));
     match number {
-        1..=3 => [0, number, 0, 0],
-        4..=6 => [1, class, number, 0],
-        7 | 8 => [number, class, address, 0],
-        10 => [9, class, 0, 0],
-        _ => [9, class, 1, address],
+        1..=3 => [0, number, 0, 0, 0],
+        4..=6 => [1, class, number, 0, 0],
+        7 | 8 => [number, class, address, 0, 0],
+        10 => [9, class, 0, 0, 0],
+        _ => [9, class, 1, address, number],
     }
 }
 
 /// Where a breach stands: the trailer's before all, then by class and address.
-fn place(verdict: &Verdict) -> [u16; 3] {
+pub(crate) fn place(verdict: &Verdict) -> [u16; 3] {
     match verdict.number {
         1..=3 => [0, u16::from(verdict.number), 0],
         _ => [1, u16::from(verdict.class), verdict.address],

@@ -8,7 +8,16 @@ pub use hveitmar::{answers, digest, record};
 
 /// The proved verifier's verdict.
 pub fn verdict(bundle: &[u8]) -> Verdict {
-    match hveitmar::verify(bundle) {
+    numbered(hveitmar::verify(bundle))
+}
+
+/// Its verdict under the profile of a list of levels.
+pub fn ordered(bundle: &[u8], levels: &[u8]) -> Verdict {
+    numbered(hveitmar::verify_ordered(bundle, levels))
+}
+
+fn numbered(verdict: hveitmar::Verdict) -> Verdict {
+    match verdict {
         hveitmar::Verdict::Accepted { classes } => Verdict::new(0, classes, 0),
         hveitmar::Verdict::Refused(refusal) => {
             let why = refusal.why().map_or(0, hveitmar::Why::number);

@@ -6,6 +6,7 @@ use generator::families::{self, contending, sharing, typed};
 use generator::lively::Lively;
 use generator::rng::Rng;
 use generator::schedule::{any_state, Scheduler};
+use reference::bundle::MAX_LENGTH;
 use reference::machine::{answer, fresh, State};
 use std::io::Error;
 use trace::{encode_input, encode_output, follow, Input, Program};
@@ -62,12 +63,14 @@ impl States {
 /// A bundle, a state of it, and a schedule from there.
 fn run(seed: u64) -> (Vec<u8>, State, Vec<u8>) {
     let mut rng = Rng::new(seed ^ 0x57A7_E000_0000_0000);
-    let bundle = match rng.below(5) {
+    let mut bundle = match rng.below(5) {
         0 => contending::contending(&mut rng).lay_out(),
         1 => sharing::sharing(&mut rng).lay_out(),
         2 => families::bundle(seed).1,
         _ => typed::well_typed(&mut rng),
     };
+    // The two bytes of the program's input can't tell a greater length.
+    bundle.truncate(MAX_LENGTH);
     let state = match rng.chance(1, 4) {
         true => any_state(&mut rng, &bundle),
         false => fresh(&bundle).1,

@@ -1,5 +1,6 @@
 //! The proved code behind its C calls, on the cases of document 01.
 
+use comparison::orders::{inputs, Input};
 use comparison::{digest, proved};
 use generator::builder::{case_a, lay_out, Method, Row};
 use generator::families::{self, recurring, sharing, typed};
@@ -115,6 +116,20 @@ fn a_slipped_verifier_differs_from_the_proved_one() {
         let proved = proved::verdict(&b);
         for (slip, count) in &mut differing {
             *count += usize::from(slip.verify(&b) != proved);
+        }
+    }
+    assert!(differing.iter().all(|&(_, n)| n >= 10), "{differing:?}");
+}
+
+/// The same under lock orders.
+#[test]
+fn a_slipped_order_differs_from_the_proved_one() {
+    let slips = Slip::STANDSTILL.into_iter().chain(Slip::ORDER);
+    let mut differing: Vec<(Slip, usize)> = slips.map(|slip| (slip, 0)).collect();
+    for Input { bundle, list, .. } in (0..400).flat_map(inputs) {
+        let proved = proved::ordered(&bundle, &list);
+        for (slip, count) in &mut differing {
+            *count += usize::from(slip.verify_ordered(&bundle, &list) != proved);
         }
     }
     assert!(differing.iter().all(|&(_, n)| n >= 10), "{differing:?}");

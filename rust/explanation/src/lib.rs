@@ -4,7 +4,7 @@
 //! this crate reads the place that the verdict names once more, by the same
 //! law (docs/LAW.md), and tells what it finds there. Where it names an entry,
 //! its own comparison is the verdict's why; the tests hold that over the
-//! generator's refusals.
+//! generator's refusals. A lock order is told by the reference's own rule.
 
 mod address;
 mod asked;
@@ -15,6 +15,7 @@ mod finding;
 mod first;
 mod form;
 mod law;
+mod order;
 mod rule;
 mod table;
 mod words;
@@ -23,6 +24,8 @@ use hveitmar::{Refusal, Why};
 use listing::{columns, Program};
 use std::fmt::{self, Display, Formatter};
 use words::wrapped;
+
+pub use order::nested;
 
 /// What is told of a refusal: the rule, what was held against it, and what
 /// was found.
@@ -52,6 +55,11 @@ impl Explanation {
 
 /// Explains the verdict that the verifier gave on these bytes.
 pub fn explain(bytes: &[u8], refusal: Refusal) -> Explanation {
+    explain_ordered(bytes, &[], refusal)
+}
+
+/// The same under a lock order: the verdict on these bytes with these levels.
+pub fn explain_ordered(bytes: &[u8], levels: &[u8], refusal: Refusal) -> Explanation {
     let program = Program::new(bytes);
     match refusal {
         Refusal::Length => container::length(bytes),
@@ -64,6 +72,8 @@ pub fn explain(bytes: &[u8], refusal: Refusal) -> Explanation {
         Refusal::Row { class, address } => form::explain(&program, class, address),
         Refusal::Rule { class, address, .. } => rule::explain(&program, class, address),
         Refusal::FirstRow { class } => first::explain(&program, class),
+        Refusal::Order { class, address } => order::explain(&program, levels, class, address),
+        Refusal::Levels => order::explain_list(levels),
     }
 }
 

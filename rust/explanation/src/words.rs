@@ -60,6 +60,15 @@ pub enum Place {
     Stack(usize),
 }
 
+impl From<reference::order::Place> for Place {
+    fn from(place: reference::order::Place) -> Place {
+        match place {
+            reference::order::Place::Variable(v) => Place::Variable(v),
+            reference::order::Place::Stack(i) => Place::Stack(i),
+        }
+    }
+}
+
 impl Display for Place {
     fn fmt(&self, to: &mut Formatter) -> fmt::Result {
         match self {

@@ -68,6 +68,20 @@ impl Method {
     }
 }
 
+/// The code of a method so far, each instruction with its row.
+#[derive(Default)]
+pub(crate) struct Written {
+    pub code: Vec<Instr>,
+    pub rows: Vec<Row>,
+}
+
+impl Written {
+    pub fn add(&mut self, instr: Instr, variables: &[Entry], stack: &[Entry]) {
+        self.code.push(instr);
+        self.rows.push(Row::new(variables, stack));
+    }
+}
+
 /// A bundle before it is laid out: the classes' methods, and the class of
 /// what is thrown.
 #[derive(Clone, Debug, Default, PartialEq, Eq)]

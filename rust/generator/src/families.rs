@@ -10,6 +10,7 @@ mod faults;
 mod fields;
 pub mod flow;
 pub(crate) mod interface;
+pub mod nesting;
 mod overlapping;
 mod probes;
 pub mod random;

@@ -1,6 +1,6 @@
 //! The generated inputs are varied enough to be worth comparing on.
 
-use generator::families::{self, contending, sharing, typed};
+use generator::families::{self, contending, nesting, sharing, typed};
 use generator::lively::{FieldUse, Lively};
 use generator::marks::MARKS;
 use generator::rng::Rng;
@@ -8,6 +8,7 @@ use generator::schedule::{damaged_state, valid_state, Scheduler};
 use generator::words::{WrongWord, MARKS as WORD_MARKS};
 use reference::belongs::belongs;
 use reference::bundle::Bundle;
+use reference::levels::Demands;
 use reference::machine::{answer, fresh};
 use reference::slips::Slip;
 use reference::state::{OBJECTS, THREADS};
@@ -62,6 +63,24 @@ fn contending_threads_wait() {
         waits += run.answers.iter().filter(|&&a| a == answer::HELD).count();
     }
     assert!(20 * waits >= steps, "{waits} of {steps}");
+}
+
+/// They are accepted; for the orderly ones some levels do, for most others none.
+#[test]
+fn nesting_threads_hold_several_locks() {
+    let (mut nested, mut circles) = (0, 0);
+    for seed in 0..500 {
+        let demands = |b: &[u8]| {
+            assert_eq!(verify(b).number, 0, "seed {seed}");
+            Demands::of(&Bundle::open_with_code(b).expect("it is accepted"))
+        };
+        let orderly = demands(&nesting::orderly(&mut Rng::new(seed)).lay_out());
+        assert!(orderly.levels().is_some(), "seed {seed}");
+        nested += usize::from(orderly.sites().next().is_some());
+        let any = demands(&nesting::any(&mut Rng::new(seed)).lay_out());
+        circles += usize::from(any.circle().is_some());
+    }
+    assert!(nested >= 250 && circles >= 250, "{nested} {circles}");
 }
 
 /// They are accepted, and threads take locks that others put into fields.

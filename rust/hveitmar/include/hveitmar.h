@@ -15,6 +15,12 @@ extern "C" {
 /* Judges the bundle in these bytes. The functions below take the number apart. */
 uint64_t hveitmar_verdict(const uint8_t *bundle, size_t length);
 
+/* Judges the bundle under a lock order: the list has a level for each class, eight bytes. As
+   hveitmar_verdict, and at each monitorenter every other reference of the row that owes a release
+   must be of a strictly higher level than what is taken. */
+uint64_t hveitmar_ordered(const uint8_t *bundle, size_t length, const uint8_t *levels,
+                          size_t level_count);
+
 /* All answers of a schedule from the fresh machine, mixed into one number: each answer is added
    to 31 times what was there, modulo 2^32, and the first is the fresh machine's own. A step is
    one byte: the low four bits are the thread, the top bit says that an allocation fails. */
@@ -47,7 +53,8 @@ uint64_t hveitmar_meets(const uint8_t *bundle, size_t length, const uint8_t *sch
    hveitmar_end and hveitmar_reliable take the number apart. */
 uint64_t hveitmar_usage(const uint8_t *text, size_t length);
 
-/* Of a verdict 0: accepted; 1 to 10: refused. Of a usage 0: read; 40 to 43: refused. */
+/* Of a verdict 0: accepted; 1 to 10: refused; under a lock order also 25: a lock is taken out of
+   order, and 26: there are not eight levels. Of a usage 0: read; 40 to 43: refused. */
 static inline unsigned hveitmar_number(uint64_t verdict) { return verdict & 0xFF; }
 
 /* The class of a refusal; of an accepted bundle, how many classes it has. */

@@ -5,6 +5,12 @@ use crate::{Held, Met, Usage, UsageRefusal, Verdict};
 
 extern "C" {
     fn hveitmar_verdict(bundle: *const u8, length: usize) -> u64;
+    fn hveitmar_ordered(
+        bundle: *const u8,
+        length: usize,
+        levels: *const u8,
+        level_count: usize,
+    ) -> u64;
     fn hveitmar_digest(bundle: *const u8, length: usize, schedule: *const u8, steps: usize) -> u64;
     fn hveitmar_answers(
         bundle: *const u8,
@@ -43,6 +49,35 @@ pub fn verify(bundle: &[u8]) -> Verdict {
     // SAFETY: the call reads this many bytes from there, and keeps nothing.
     let packed = unsafe { hveitmar_verdict(bundle.as_ptr(), bundle.len()) };
     Verdict::unpacked(packed).unwrap_or_else(|| panic!("{packed:x} is no verdict"))
+}
+
+/// Judges a bundle under a lock order, in which each class has a level: as
+/// [`verify`] does, and at each monitorenter every other reference of the row
+/// that owes a release must be of a strictly higher level than what is taken
+/// (25). A list of other than eight levels is refused before all else (26).
+///
+/// While a thread of an accepted bundle lives, some thread that lives need not
+/// wait for a lock, whatever was run before.
+///
+/// ```
+/// use hveitmar::{verify_ordered, Refusal, Verdict};
+///
+/// # let folder = concat!(env!("CARGO_MANIFEST_DIR"), "/../../cases/");
+/// // It takes a lock of class 1 while it holds one of class 0.
+/// let bundle = std::fs::read(format!("{folder}nested.bundle"))?;
+/// let verdict = verify_ordered(&bundle, &[1, 0, 0, 0, 0, 0, 0, 0]);
+/// assert_eq!(verdict, Verdict::Accepted { classes: 2 });
+/// let refused = verify_ordered(&bundle, &[0; 8]);
+/// assert_eq!(refused.to_string(), "refused 25 class 0 address 10");
+/// let refused = verify_ordered(&bundle, &[0; 7]);
+/// assert_eq!(refused, Verdict::Refused(Refusal::Levels));
+/// # Ok::<(), std::io::Error>(())
+/// ```
+pub fn verify_ordered(bundle: &[u8], levels: &[u8]) -> Verdict {
+    // SAFETY: as above, for both slices.
+    let packed =
+        unsafe { hveitmar_ordered(bundle.as_ptr(), bundle.len(), levels.as_ptr(), levels.len()) };
+    Verdict::unpacked_ordered(packed).unwrap_or_else(|| panic!("{packed:x} is no verdict"))
 }
 
 /// All answers of a schedule from the fresh machine, mixed into one number:

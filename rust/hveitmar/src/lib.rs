@@ -1,11 +1,11 @@
 //! The proved verifier and machine for Rust callers.
 //!
-//! [`verify`] judges a bundle, [`record`] finds a class's bytes in it,
-//! [`digest`] and [`answers`] run a schedule on it, [`held`] tells how many
-//! objects a thread holds in a state of it, [`meets`] what its next step meets,
-//! [`usage`] reads a usage. All are proved to give what docs/LAW.md says,
-//! whatever the bytes are; this crate adds types for their numbers. What a
-//! bundle is, byte by byte, is there too.
+//! [`verify`] judges a bundle, [`verify_ordered`] does so under a lock order,
+//! [`record`] finds a class's bytes in it, [`digest`] and [`answers`] run a
+//! schedule on it, [`held`] tells how many objects a thread holds in a state of
+//! it, [`meets`] what its next step meets, [`usage`] reads a usage. All are
+//! proved to give what docs/LAW.md says, whatever the bytes are; this crate adds
+//! types for their numbers. What a bundle is, byte by byte, is there too.
 //!
 //! ```
 //! # let folder = concat!(env!("CARGO_MANIFEST_DIR"), "/../../cases/");
@@ -28,7 +28,7 @@ mod usage;
 mod verdict;
 
 pub use answer::Answer;
-pub use calls::{answers, digest, held, meets, record, usage, verify};
+pub use calls::{answers, digest, held, meets, record, usage, verify, verify_ordered};
 pub use held::Held;
 pub use met::Met;
 pub use usage::{Usage, UsageRefusal};

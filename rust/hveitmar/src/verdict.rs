@@ -22,7 +22,8 @@ pub enum Verdict {
         /// How many classes the bundle has.
         classes: u8,
     },
-    /// 1 to 10: the first breach, in the law's order.
+    /// The first breach, in the law's order: 1 to 10, and under a lock order
+    /// 25 and 26 too.
     Refused(Refusal),
 }
 
@@ -79,6 +80,15 @@ pub enum Refusal {
         /// The class whose row it is.
         class: u8,
     },
+    /// 25: a lock is taken while one may be held that is not of a higher level.
+    Order {
+        /// The class whose code it is.
+        class: u8,
+        /// The address, from 1.
+        address: u16,
+    },
+    /// 26: the list of levels is not eight bytes long.
+    Levels,
 }
 
 /// Why a rule fails.
@@ -120,7 +130,7 @@ impl Display for Why {
 }
 
 impl Refusal {
-    /// The document's number, 1 to 10.
+    /// The document's number: 1 to 10, 25 or 26.
     pub fn number(&self) -> u8 {
         match self {
             Refusal::Length => 1,
@@ -133,20 +143,23 @@ impl Refusal {
             Refusal::Row { .. } => 8,
             Refusal::Rule { .. } => 9,
             Refusal::FirstRow { .. } => 10,
+            Refusal::Order { .. } => 25,
+            Refusal::Levels => 26,
         }
     }
 
     /// The class that the refusal names; 0 where it names none.
     pub fn class(&self) -> u8 {
         match *self {
-            Refusal::Length | Refusal::Trailer | Refusal::Directory => 0,
+            Refusal::Length | Refusal::Trailer | Refusal::Directory | Refusal::Levels => 0,
             Refusal::Limits { class }
             | Refusal::Record { class }
             | Refusal::Descriptor { class }
             | Refusal::Instruction { class, .. }
             | Refusal::Row { class, .. }
             | Refusal::Rule { class, .. }
-            | Refusal::FirstRow { class } => class,
+            | Refusal::FirstRow { class }
+            | Refusal::Order { class, .. } => class,
         }
     }
 
@@ -155,7 +168,8 @@ impl Refusal {
         match *self {
             Refusal::Instruction { address, .. }
             | Refusal::Row { address, .. }
-            | Refusal::Rule { address, .. } => address,
+            | Refusal::Rule { address, .. }
+            | Refusal::Order { address, .. } => address,
             _ => 0,
         }
     }
@@ -183,7 +197,7 @@ impl Display for Refusal {
 impl Error for Refusal {}
 
 impl Verdict {
-    /// The document's number, 0 to 10.
+    /// The document's number: 0 to 10, 25 or 26.
     pub fn number(&self) -> u8 {
         match self {
             Verdict::Accepted { .. } => 0,
@@ -210,6 +224,18 @@ impl Verdict {
         match self {
             Verdict::Accepted { classes } => Ok(classes),
             Verdict::Refused(refusal) => Err(refusal),
+        }
+    }
+
+    /// Reads the number of a verdict under a lock order.
+    pub(crate) fn unpacked_ordered(packed: u64) -> Option<Verdict> {
+        match packed.to_le_bytes() {
+            [25, class, low, high, 0, 0, 0, 0] => {
+                let address = u16::from_le_bytes([low, high]);
+                Some(Verdict::Refused(Refusal::Order { class, address }))
+            }
+            [26, 0, 0, 0, 0, 0, 0, 0] => Some(Verdict::Refused(Refusal::Levels)),
+            _ => Verdict::unpacked(packed),
         }
     }
 
@@ -261,6 +287,26 @@ mod tests {
         let verdict = Verdict::unpacked(packed).expect("a verdict");
         assert_eq!(verdict.to_string(), "refused 9 class 3 address 256 why 2");
         assert_eq!(verdict.number(), 9);
+    }
+
+    #[test]
+    fn numbers_under_a_lock_order() {
+        let told = [
+            (25 | 3 << 8 | 256 << 16, "refused 25 class 3 address 256"),
+            (26, "refused 26 class 0 address 0"),
+            (2 << 8, "accepted classes 2"),
+            (9 | 7 << 16 | 1 << 32, "refused 9 class 0 address 7 why 1"),
+        ];
+        for (packed, line) in told {
+            let verdict = Verdict::unpacked_ordered(packed).expect("a verdict");
+            assert_eq!(verdict.to_string(), line);
+        }
+        for packed in [25, 26] {
+            assert_eq!(Verdict::unpacked(packed), None, "only under an order");
+        }
+        for stray in [25 | 1 << 32, 26 | 1 << 8, 26 | 1 << 16, 26 | 1 << 32, 27] {
+            assert_eq!(Verdict::unpacked_ordered(stray), None);
+        }
     }
 
     #[test]

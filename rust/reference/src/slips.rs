@@ -6,8 +6,10 @@
 
 use crate::bundle::Bundle;
 use crate::history::{History, Numbers};
+use crate::levels::Demands;
 use crate::machine::{self, answer, State};
 use crate::met::{self, Met};
+use crate::order::Levels;
 use crate::verify::{self, Verdict};
 
 /// What a verifier or a machine goes by: the law as written, or with a slip.
@@ -28,14 +30,17 @@ impl Law for AsWritten {
 }
 
 /// All slips in one list: the verifier's, each with the fault that a bundle
-/// let through by it leads to, the machine's, those of the held words, and those
-/// of histories.
+/// let through by it leads to, the machine's, those of the held words, those of
+/// histories, and those of the lock order: after some of these all threads may
+/// wait, others refuse too much or name another breach.
 macro_rules! slips {
     (
         verifier { $($(#[$said:meta])* $judging:ident => $fault:ident,)* }
         machine { $($(#[$meant:meta])* $moving:ident,)* }
         words { $($(#[$noted:meta])* $holding:ident,)* }
         histories { $($(#[$recalled:meta])* $recalling:ident,)* }
+        standstill { $($(#[$stood:meta])* $standing:ident,)* }
+        order { $($(#[$ranked:meta])* $ranking:ident,)* }
     ) => {
         /// One mistake.
         #[derive(Clone, Copy, Debug, PartialEq, Eq)]
@@ -44,6 +49,8 @@ macro_rules! slips {
             $($(#[$meant])* $moving,)*
             $($(#[$noted])* $holding,)*
             $($(#[$recalled])* $recalling,)*
+            $($(#[$stood])* $standing,)*
+            $($(#[$ranked])* $ranking,)*
         }
 
         /// A law for each slip.
@@ -78,6 +85,20 @@ macro_rules! slips {
                     const SLIP: Option<Slip> = Some(Slip::$recalling);
                 }
             )*
+            $(
+                pub struct $standing;
+
+                impl Law for $standing {
+                    const SLIP: Option<Slip> = Some(Slip::$standing);
+                }
+            )*
+            $(
+                pub struct $ranking;
+
+                impl Law for $ranking {
+                    const SLIP: Option<Slip> = Some(Slip::$ranking);
+                }
+            )*
         }
 
         impl Slip {
@@ -96,14 +117,21 @@ macro_rules! slips {
             pub const HISTORIES: [Slip; [$(Slip::$recalling),*].len()] =
                 [$(Slip::$recalling),*];
 
+            /// Slips of the lock order that accept a bundle whose threads may
+            /// all wait.
+            pub const STANDSTILL: [Slip; [$(Slip::$standing),*].len()] =
+                [$(Slip::$standing),*];
+
+            /// Slips of the lock order that refuse too much, take a list that
+            /// is none, or name another breach.
+            pub const ORDER: [Slip; [$(Slip::$ranking),*].len()] = [$(Slip::$ranking),*];
+
             /// The fault that a bundle let through by this slip leads to; None
             /// for those that are not the verifier's.
             pub const fn fault(self) -> Option<u8> {
                 match self {
                     $(Slip::$judging => Some(answer::$fault),)*
-                    $(Slip::$moving)|* => None,
-                    $(Slip::$holding)|* => None,
-                    $(Slip::$recalling)|* => None,
+                    _ => None,
                 }
             }
 
@@ -111,9 +139,31 @@ macro_rules! slips {
             pub fn verify(self, b: &[u8]) -> Verdict {
                 match self {
                     $(Slip::$judging => verify::verify_by::<laws::$judging>(b),)*
-                    $(Slip::$moving)|* => verify::verify(b),
-                    $(Slip::$holding)|* => verify::verify(b),
-                    $(Slip::$recalling)|* => verify::verify(b),
+                    _ => verify::verify(b),
+                }
+            }
+
+            /// The same under the profile of a list of levels.
+            pub fn verify_ordered(self, b: &[u8], levels: &[u8]) -> Verdict {
+                match self {
+                    $(Slip::$standing => {
+                        verify::verify_ordered_by::<laws::$standing>(b, levels)
+                    })*
+                    $(Slip::$ranking => {
+                        verify::verify_ordered_by::<laws::$ranking>(b, levels)
+                    })*
+                    _ => verify::verify_ordered(b, levels),
+                }
+            }
+
+            /// The levels that one who makes this slip takes to do for an
+            /// accepted bundle.
+            pub fn levels(self, bundle: &Bundle) -> Option<Levels> {
+                match self {
+                    $(Slip::$standing => {
+                        Demands::of_by::<laws::$standing>(bundle).levels_by::<laws::$standing>()
+                    })*
+                    _ => Demands::of(bundle).levels(),
                 }
             }
 
@@ -126,8 +176,7 @@ macro_rules! slips {
                     $(Slip::$holding => {
                         machine::step_by::<laws::$holding>(bundle, state, thread, fails)
                     })*
-                    $(Slip::$judging)|* => machine::step_in(bundle, state, thread, fails),
-                    $(Slip::$recalling)|* => machine::step_in(bundle, state, thread, fails),
+                    _ => machine::step_in(bundle, state, thread, fails),
                 }
             }
 
@@ -138,9 +187,7 @@ macro_rules! slips {
                     $(Slip::$holding => {
                         machine::held_by::<laws::$holding>(bundle, state, thread)
                     })*
-                    $(Slip::$moving)|* => machine::held_in(bundle, state, thread),
-                    $(Slip::$judging)|* => machine::held_in(bundle, state, thread),
-                    $(Slip::$recalling)|* => machine::held_in(bundle, state, thread),
+                    _ => machine::held_in(bundle, state, thread),
                 }
             }
 
@@ -259,5 +306,37 @@ slips! {
         WaitsCounted,
         /// Steps of an earlier thread of the same number count.
         EarlierThreadCounted,
+    }
+    standstill {
+        /// What is held may be of the same level as what is taken.
+        EqualLevelsAllowed,
+        /// The stack isn't looked at.
+        StackUnordered,
+        /// Entries of the class that is taken aren't looked at.
+        OwnClassUnordered,
+        /// A monitorenter on what may be null isn't looked at.
+        NullableUnordered,
+        /// Only the first entry that owes is looked at.
+        FirstHeldOrdered,
+        /// An end of -1 doesn't count.
+        SingleDebtUnordered,
+    }
+    order {
+        /// The variable of the monitorenter is looked at too.
+        OwnPlaceOrdered,
+        /// An end of 0 counts.
+        EndZeroOrdered,
+        /// A reference that may be null counts.
+        NullableHeld,
+        /// monitorexit asks the same.
+        ExitOrdered,
+        /// 25 comes before 9 at the same address.
+        OrderBeforeRule,
+        /// 25 comes after every 9 and 10.
+        OrderBehindRules,
+        /// A list of seven bytes is taken, with 0 for the last class.
+        SevenLevelsTaken,
+        /// 26 comes after every verdict on the bundle.
+        ListJudgedLast,
     }
 }

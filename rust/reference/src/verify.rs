@@ -1,9 +1,10 @@
 //! The verifier: every verdict in the document's order.
 
-use crate::bundle::{Addr, Bundle, RawRow};
+use crate::bundle::{Addr, Bundle, Class, RawRow};
 use crate::entries::{well_formed, UNUSED};
+use crate::order::Levels;
 use crate::rules;
-use crate::slips::{AsWritten, Law};
+use crate::slips::{AsWritten, Law, Slip};
 
 pub use crate::bundle::Verdict;
 
@@ -13,16 +14,40 @@ pub fn verify(b: &[u8]) -> Verdict {
 }
 
 pub(crate) fn verify_by<L: Law>(b: &[u8]) -> Verdict {
-    match judge::<L>(b) {
+    told(judge::<L>(b, |_, _| true))
+}
+
+/// Judges a bundle under the profile of a list of levels: 26 when it isn't
+/// eight bytes long, before all else; otherwise every verdict in its order,
+/// with 25 after 9 at the same address.
+pub fn verify_ordered(b: &[u8], levels: &[u8]) -> Verdict {
+    verify_ordered_by::<AsWritten>(b, levels)
+}
+
+pub(crate) fn verify_ordered_by<L: Law>(b: &[u8], levels: &[u8]) -> Verdict {
+    match Levels::read_by::<L>(levels) {
+        Some(levels) => told(judge::<L>(b, |class, at| levels.allow_at::<L>(class, at))),
+        None if L::slips(Slip::ListJudgedLast) && verify(b).number > 0 => verify(b),
+        None => Verdict::new(26, 0, 0),
+    }
+}
+
+fn told(judged: Result<u8, Verdict>) -> Verdict {
+    match judged {
         Ok(count) => Verdict::new(0, count, 0),
         Err(verdict) => verdict,
     }
 }
 
-fn judge<L: Law>(b: &[u8]) -> Result<u8, Verdict> {
+/// The class count, or the first breach; `ordered` is what a profile asks of
+/// an address beside its rule.
+fn judge<L: Law>(b: &[u8], ordered: impl Fn(&Class, Addr) -> bool) -> Result<u8, Verdict> {
     let bundle = Bundle::open_with_code(b)?;
     check_rows(&bundle)?;
-    check_rules::<L>(&bundle)?;
+    if L::slips(Slip::OrderBehindRules) {
+        check_rules::<L>(&bundle, |_, _| true)?;
+    }
+    check_rules::<L>(&bundle, ordered)?;
     Ok(bundle.count())
 }
 
@@ -48,15 +73,26 @@ fn row_well_formed(row: RawRow, classes: u8) -> bool {
         && unused.iter().fold(true, |all, &raw| all & (raw == UNUSED))
 }
 
-/// Class by class, verdict 10 and then verdict 9.
-fn check_rules<L: Law>(bundle: &Bundle) -> Result<(), Verdict> {
+/// Class by class, verdict 10 and then, address by address, 9 and 25.
+fn check_rules<L: Law>(
+    bundle: &Bundle,
+    ordered: impl Fn(&Class, Addr) -> bool,
+) -> Result<(), Verdict> {
     for (number, class) in bundle.classes() {
         if !rules::first_row_holds(class) {
             return Err(Verdict::new(10, number, 0));
         }
         for address in 1..=class.code_length() {
+            let order = || match ordered(class, Addr(address)) {
+                true => Ok(()),
+                false => Err(Verdict::new(25, number, address)),
+            };
+            if L::slips(Slip::OrderBeforeRule) {
+                order()?;
+            }
             rules::check::<L>(bundle, class, Addr(address))
                 .map_err(|why| Verdict::new(9, number, address).because(why as u8))?;
+            order()?;
         }
     }
     Ok(())

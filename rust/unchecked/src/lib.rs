@@ -17,10 +17,14 @@ mod history;
 #[path = "../../reference/src/instructions.rs"]
 mod instructions;
 mod known;
+#[path = "../../reference/src/levels.rs"]
+mod levels;
 #[path = "../../reference/src/machine.rs"]
 mod machine;
 #[path = "../../reference/src/met.rs"]
 mod met;
+#[path = "../../reference/src/order.rs"]
+mod order;
 #[path = "../../reference/src/rules.rs"]
 mod rules;
 #[path = "../../reference/src/slips.rs"]

@@ -7,6 +7,8 @@
 use comparison::holdings::Holdings;
 use comparison::meetings::Meetings;
 use comparison::order::Order;
+use comparison::orders::Orders;
+use comparison::progress::Progress;
 use comparison::records::Records;
 use comparison::runs::Runs;
 use comparison::states::States;
@@ -19,10 +21,16 @@ use std::process::ExitCode;
 
 /// One bundle with two breaches for so many others.
 const BUNDLES_A_PAIR: u64 = 10;
+/// One bundle judged under lock orders for so many others: it gets several
+/// lists of levels.
+const BUNDLES_AN_ORDER: u64 = 10;
 /// One bundle whose records are looked up for so many others.
 const BUNDLES_A_RECORD: u64 = 10;
 /// One text of a usage for so many bundles.
 const BUNDLES_A_TEXT: u64 = 5;
+/// One run watched for progress for so many schedules: after each step all
+/// threads are tried.
+const SCHEDULES_A_WATCHED_RUN: u64 = 4;
 /// One run asked for what its steps meet for so many schedules: each question
 /// runs all of it.
 const SCHEDULES_A_MEETING: u64 = 5;
@@ -49,15 +57,22 @@ fn main() -> ExitCode {
     }
 }
 
-/// How much differs, and how much never came up.
-fn compare(bundles: u64, schedules: u64, first: u64) -> Result<(u64, u64), Error> {
+/// A part, and how many inputs it gets.
+type Share = (Box<dyn Part>, u64);
+
+fn parts(bundles: u64, schedules: u64) -> Result<Vec<Share>, Error> {
     // What needs the trace program comes first, so that a lack of it is told
     // at once.
     let traces = Traces::with_program()?;
     let states = States::with_program()?;
-    let parts: [(Box<dyn Part>, u64); 9] = [
+    Ok(vec![
         (Box::new(Verdicts::around_case_a()), bundles),
         (Box::<Order>::default(), bundles.div_ceil(BUNDLES_A_PAIR)),
+        (Box::<Orders>::default(), bundles.div_ceil(BUNDLES_AN_ORDER)),
+        (
+            Box::<Progress>::default(),
+            schedules.div_ceil(SCHEDULES_A_WATCHED_RUN),
+        ),
         (
             Box::<Records>::default(),
             bundles.div_ceil(BUNDLES_A_RECORD),
@@ -74,9 +89,13 @@ fn compare(bundles: u64, schedules: u64, first: u64) -> Result<(u64, u64), Error
             Box::new(Texts::of_small_usages()),
             bundles.div_ceil(BUNDLES_A_TEXT),
         ),
-    ];
+    ])
+}
+
+/// How much differs, and how much never came up.
+fn compare(bundles: u64, schedules: u64, first: u64) -> Result<(u64, u64), Error> {
     let (mut differences, mut missing) = (0, 0);
-    for (mut part, inputs) in parts {
+    for (mut part, inputs) in parts(bundles, schedules)? {
         (first..first + inputs).for_each(|seed| part.generated(seed));
         part.print();
         differences += part.differences();

@@ -7,10 +7,14 @@
 //! of the held words: a state, or a run from it, where the slipped machine tells
 //! another number of objects held. For a slip of histories: a run in which a
 //! step meets something else, or a lock was taken or given back another number
-//! of times. For a slip of the reader of usages: a text that it answers
-//! otherwise.
+//! of times. For a slip of the lock order: a bundle that only the slipped
+//! verifier accepts, under levels that it takes to do, and a schedule after
+//! which all threads wait; or a bundle and a list of which it says something
+//! else. For a slip of the reader of usages: a text that it answers otherwise.
 
-use generator::families::{recurring, sharing, typed};
+use comparison::orders::{inputs, Input};
+use comparison::progress::{next_answers, stands_still};
+use generator::families::{nesting, recurring, sharing, typed};
 use generator::rng::Rng;
 use generator::schedule::{any_state, Scheduler};
 use generator::texts::text;
@@ -20,7 +24,7 @@ use reference::machine::{answer, fresh, held_in, step_in};
 use reference::met::met_in;
 use reference::slips::Slip;
 use reference::state::{OBJECTS, THREADS};
-use reference::verify::verify;
+use reference::verify::{verify, verify_ordered};
 use std::process::ExitCode;
 use usages::slips::SLIPS;
 use usages::{answer as answer_of, Answer};
@@ -37,6 +41,9 @@ fn main() -> ExitCode {
     let words = Slip::WORDS.map(|slip| (slip, (0..BUNDLES).find_map(|s| misheld(slip, s))));
     let histories =
         Slip::HISTORIES.map(|slip| (slip, (0..BUNDLES).find_map(|s| misremembered(slip, s))));
+    let standstill =
+        Slip::STANDSTILL.map(|slip| (slip, (0..BUNDLES).find_map(|s| stopped(slip, s))));
+    let order = Slip::ORDER.map(|slip| (slip, (0..BUNDLES).find_map(|s| misordered(slip, s))));
     let named = |(slip, found)| (format!("{slip:?}"), found);
     let reader = SLIPS.map(|(name, slipped)| {
         let found = (0..TEXTS).find_map(|seed| misread(slipped, seed));
@@ -44,7 +51,8 @@ fn main() -> ExitCode {
     });
     let mut all_found = true;
     let all = verifier.into_iter().chain(machine).chain(words);
-    let all = all.chain(histories).map(named);
+    let all = all.chain(histories).chain(standstill).chain(order);
+    let all = all.map(named);
     for (slip, found) in all.chain(reader) {
         all_found &= found.is_some();
         println!("{slip}: {}", found.unwrap_or("not found".to_string()));
@@ -169,6 +177,45 @@ fn miscounted(slip: Slip, history: &History, thread: u8) -> Option<String> {
         let truth = history.numbers(thread, object);
         let other = slip.numbers(history, thread, object);
         (truth != other).then(|| format!("object {object} has {other:?} for {truth:?}"))
+    })
+}
+
+/// A bundle that only the slipped verifier accepts under its levels, and a
+/// schedule after which all live threads wait.
+fn stopped(slip: Slip, seed: u64) -> Option<String> {
+    let b = nesting::any(&mut Rng::new(seed)).lay_out();
+    let bundle = Bundle::open_with_code(&b).ok()?;
+    let levels = slip.levels(&bundle)?.0;
+    let truth = verify_ordered(&b, &levels);
+    if truth.number == 0 || slip.verify_ordered(&b, &levels).number != 0 {
+        return None;
+    }
+    let (schedule, step) = (0..SCHEDULES).find_map(|s| Some((s, stop(&bundle, &b, s)?)))?;
+    Some(format!(
+        "seed {seed} levels {levels:?} {truth}, schedule {schedule} all wait after step {step}"
+    ))
+}
+
+/// The step of the true machine on this schedule after which all live threads
+/// wait.
+fn stop(bundle: &Bundle, b: &[u8], seed: u64) -> Option<usize> {
+    let mut scheduler = Scheduler::restless(seed);
+    let mut state = fresh(b).1;
+    (1..=STEPS).find(|_| {
+        let turn = scheduler.turn(&state);
+        step_in(bundle, &mut state, turn.thread(), turn.fails());
+        stands_still(&next_answers(bundle, &state))
+    })
+}
+
+/// A bundle and a list of which the slipped verifier says something else.
+fn misordered(slip: Slip, seed: u64) -> Option<String> {
+    inputs(seed).iter().find_map(|Input { bundle, list, .. }| {
+        let (other, truth) = (
+            slip.verify_ordered(bundle, list),
+            verify_ordered(bundle, list),
+        );
+        (other != truth).then(|| format!("seed {seed} levels {list:?} {other} for {truth}"))
     })
 }
 

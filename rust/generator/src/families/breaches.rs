@@ -58,6 +58,15 @@ impl TwoBreaches {
     }
 }
 
+/// A bundle in its plain layout with a breach of this verdict, if one comes up,
+/// and what it draws without levels.
+pub fn one_breach(rng: &mut Rng, good: &[u8], wanted: u8) -> Option<(Vec<u8>, Verdict)> {
+    let (edit, verdict) = breach(rng, good, wanted)?;
+    let mut bundle = good.to_vec();
+    edit.apply(&mut bundle);
+    Some((bundle, verdict))
+}
+
 /// An accepted bundle of several classes in its plain layout.
 fn good(rng: &mut Rng) -> Vec<u8> {
     loop {

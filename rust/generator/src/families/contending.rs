@@ -61,7 +61,7 @@ fn worker(rng: &mut Rng, interface: &Interface, class: usize) -> Method {
 
 impl Writer<'_> {
     /// Starts a thread of some worker's class with all shared objects.
-    fn start_sharing(&mut self, objects: &[u8]) {
+    pub(super) fn start_sharing(&mut self, objects: &[u8]) {
         let worker = self.rng.between(1, self.interface.signatures.len() - 1) as u8;
         self.new_object(worker, None);
         for (v, &class) in objects.iter().enumerate().rev() {

@@ -1,7 +1,7 @@
 //! Threads that are started again and again, and take their locks more than
 //! once.
 
-use crate::builder::{Draft, Method, Row};
+use crate::builder::{Draft, Method, Written};
 use crate::rng::Rng;
 use reference::bundle::{Addr, Instr, Var};
 use reference::entries::Entry;
@@ -19,19 +19,7 @@ pub fn recurring(rng: &mut Rng) -> Draft {
     }
 }
 
-/// The code so far, each instruction with its row.
-#[derive(Default)]
-struct Written {
-    code: Vec<Instr>,
-    rows: Vec<Row>,
-}
-
 impl Written {
-    fn add(&mut self, instr: Instr, variables: &[Entry], stack: &[Entry]) {
-        self.code.push(instr);
-        self.rows.push(Row::new(variables, stack));
-    }
-
     /// Takes the lock of a variable and gives it back, a few times over.
     fn lock(&mut self, rng: &mut Rng, variables: &mut [Entry], v: usize) {
         let times = rng.pick(&[1, 1, 2, 3]);

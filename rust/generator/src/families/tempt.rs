@@ -49,21 +49,8 @@ impl Writer<'_> {
             Slip::PutfieldOfTop => self.put_top(v),
             Slip::PutfieldOfAnyClass => self.put_other(v),
             Slip::PutfieldDropsValue => self.put_lock_away(v),
-            Slip::CountByVariable
-            | Slip::ReentryWaits
-            | Slip::NewLeavesFields
-            | Slip::NullWaits
-            | Slip::BitOfAnotherObject
-            | Slip::ExitClearsBit
-            | Slip::IdleWordIgnored
-            | Slip::BitTooManyBelongs
-            | Slip::BitTooFewBelongs
-            | Slip::BitsOnlyCounted
-            | Slip::LastBitNotCounted
-            | Slip::NullMeetsObject0
-            | Slip::StartMeetsObject
-            | Slip::WaitsCounted
-            | Slip::EarlierThreadCounted => false,
+            // Not the verifier's.
+            _ => false,
         }
     }
 
