@@ -1,0 +1,5 @@
+pub mod Laid
+pub mod Starts
+pub mod Order
+pub mod Meaning
+pub mod Cases

@@ -1,0 +1,5 @@
+pub mod Rows
+pub mod Stacks
+pub mod Moves
+pub mod Faithful
+pub mod Carried

@@ -1,0 +1,3 @@
+pub mod Opcodes
+pub mod Instructions
+pub mod Classes

@@ -1,0 +1,4 @@
+pub mod Offsets
+pub mod Turns
+pub mod Index
+pub mod Targets

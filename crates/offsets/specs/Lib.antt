@@ -1,0 +1,5 @@
+pub mod Offsets
+pub mod Handlers
+pub mod Targets
+pub mod Offenders
+pub mod Index
