@@ -1,0 +1,5 @@
+pub mod Tab
+pub mod Loops
+pub mod Meaning
+pub mod Writes
+pub mod Frames

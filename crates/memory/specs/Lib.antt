@@ -1,0 +1,3 @@
+pub mod Tab
+pub mod Words
+pub mod Frames

@@ -1,0 +1,10 @@
+pub mod Places
+pub mod Stores
+pub mod Others
+pub mod Known
+pub mod Steps
+pub mod Entering
+pub mod Making
+pub mod Starting
+pub mod Halfway
+pub mod Quiet
