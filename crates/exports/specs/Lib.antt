@@ -1,2 +1,3 @@
 pub mod Exports
 pub mod Packing
+pub mod Runs

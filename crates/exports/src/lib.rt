@@ -1,4 +1,5 @@
 // C calls on byte slices, for tests, benchmarks and Rust callers.
+mod runs;
 mod texts;
 
 ghost use mathlib.Core.Path.{_≡_};
