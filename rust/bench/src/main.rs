@@ -4,7 +4,7 @@
 //! the ratios proved / another side: their median over the rounds, and their
 //! spread. The other sides are the reference, the same without checks of its
 //! indices, which is the limit of its algorithm, and one read of the bytes,
-//! which is memory's.
+//! which is memory's; of lists that are run at once, the proved single steps.
 
 mod flags;
 mod measure;
@@ -16,18 +16,17 @@ use generator::builder::{case_a, lay_out};
 use generator::families::sized;
 use measure::side;
 use reference::entries::Entry;
+use reference::run::run;
 use reference::verify::{verify, Verdict};
 use std::hint::black_box;
-use table::Line;
+use table::{Last, Line};
+use trace::encode_state;
 
-const STEPS: usize = 2_000;
-
-/// How much of a bundle a call of the verifier reads.
-#[derive(Clone, Copy, PartialEq)]
-enum Reads {
-    Whole,
-    Part,
-}
+/// How many steps are timed one by one: few, so that a call is short; and how
+/// many as a list: enough that the one look at the bundle takes no part of its
+/// time that could be told.
+const STEPS: usize = 400;
+const LIST: usize = 500_000;
 
 fn main() {
     let rounds = std::env::args()
@@ -37,10 +36,13 @@ fn main() {
     println!(
         "command: cargo run --release --offline --bin bench -- {rounds} (ratios: proved / other side, median of {rounds} rounds)"
     );
-    table::header();
+    table::header(Last::Read);
     verify_lines(rounds);
     machine_lines(rounds);
     size_lines(rounds);
+    println!("\nlists of {LIST} steps; step: the first {STEPS} of them one by one, by the proved machine");
+    table::header(Last::Steps(STEPS));
+    run_lines(rounds);
 }
 
 fn verify_lines(rounds: usize) {
@@ -64,17 +66,17 @@ fn kinds(rounds: usize, name: &str, accepted: &[Vec<u8>], late: Vec<Vec<u8>>) {
     let first: Vec<Vec<u8>> = changed(sized::refused_at_first_instruction);
     assert!(first.iter().all(|b| verify(b) == Verdict::new(7, 0, 1)));
     let named = [
-        ("accepted", accepted, Reads::Whole),
-        ("refused 2", &early, Reads::Part),
-        ("refused 7 at class 0 address 1", &first, Reads::Part),
-        ("refused 9 at the last address", &late, Reads::Whole),
+        ("accepted", accepted, Last::Read),
+        ("refused 2", &early, Last::None),
+        ("refused 7 at class 0 address 1", &first, Last::None),
+        ("refused 9 at the last address", &late, Last::Read),
     ];
-    for (fate, bundles, reads) in named {
-        verify_line(rounds, format!("verify {name}, {fate}"), bundles, reads);
+    for (fate, bundles, last) in named {
+        verify_line(rounds, format!("verify {name}, {fate}"), bundles, last);
     }
 }
 
-fn verify_line(rounds: usize, name: String, bundles: &[Vec<u8>], reads: Reads) {
+fn verify_line(rounds: usize, name: String, bundles: &[Vec<u8>], last: Last) {
     for b in bundles {
         assert_eq!(proved::verdict(b), verify(b));
         assert_eq!(unchecked::verify(b).number, verify(b).number);
@@ -84,7 +86,7 @@ fn verify_line(rounds: usize, name: String, bundles: &[Vec<u8>], reads: Reads) {
         side(|b| u64::from(verify(b).number)),
         side(|b| u64::from(unchecked::verify(b).number)),
     ];
-    if reads == Reads::Whole {
+    if last == Last::Read {
         sides.push(side(sum));
     }
     let line = Line {
@@ -92,6 +94,7 @@ fn verify_line(rounds: usize, name: String, bundles: &[Vec<u8>], reads: Reads) {
         bundles,
         steps: 1,
         sides,
+        last,
     };
     line.print(rounds);
 }
@@ -122,6 +125,7 @@ fn machine_lines(rounds: usize) {
                     side(|b| digest::of_run(b, black_box(&schedule))),
                     side(|b| unchecked_run(b, black_box(&schedule))),
                 ],
+                last: Last::None,
             };
             line.print(rounds);
         }
@@ -140,9 +144,52 @@ fn size_lines(rounds: usize) {
     for kilobytes in [1, 2, 4, 8, 16, 32, 64] {
         let bundle = sized::striped(1_024 * kilobytes, 4, 3);
         let name = format!("verify {kilobytes} KB, one block again and again");
-        verify_line(rounds, name, &[bundle], Reads::Whole);
+        verify_line(rounds, name, &[bundle], Last::Read);
     }
     let wide = sized::striped(65_000, 16, 16);
     let name = "verify 64 KB, the same with V 16, K 16".to_string();
-    verify_line(rounds, name, &[wide], Reads::Whole);
+    verify_line(rounds, name, &[wide], Last::Read);
+}
+
+/// The bundle is looked at once on all sides.
+fn run_lines(rounds: usize) {
+    for (name, others) in [("small", 0), ("full", 6)] {
+        let lists = [
+            ("1", sized::endless(1, others), sized::turns(1, LIST)),
+            ("8", sized::endless(8, others), sized::turns(8, LIST)),
+            (
+                "8, one lock",
+                sized::wanting(8, others),
+                sized::wanting_turns(8, LIST),
+            ),
+        ];
+        for (threads, bundle, list) in lists {
+            let name = format!("run on a {name} bundle, live threads: {threads}");
+            run_line(rounds, name, bundle, &list);
+        }
+    }
+}
+
+fn run_line(rounds: usize, name: String, bundle: Vec<u8>, list: &[u8]) {
+    let ran = run(&bundle, list);
+    let (told, state) = proved::run(&bundle, list);
+    assert_eq!(
+        (told, &state[..]),
+        (Ok(ran.number), &encode_state(&ran.state)[..])
+    );
+    assert_eq!(unchecked::run(&bundle, list).number, ran.number);
+    let first = &list[..STEPS];
+    let line = Line {
+        name,
+        bundles: &[bundle],
+        steps: LIST,
+        sides: vec![
+            side(|b| hveitmar::run(b, black_box(list)).steps.unwrap_or(0)),
+            side(|b| run(b, black_box(list)).number),
+            side(|b| unchecked::run(b, black_box(list)).number),
+            side(|b| proved::digest(b, black_box(first))),
+        ],
+        last: Last::Steps(STEPS),
+    };
+    line.print(rounds);
 }

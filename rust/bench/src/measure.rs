@@ -65,10 +65,6 @@ impl Times {
         Times((0..rounds).map(round).collect())
     }
 
-    pub fn sides(&self) -> usize {
-        self.0[0].len()
-    }
-
     /// The median of a side.
     pub fn of(&self, side: usize) -> f64 {
         Spread::of(self.0.iter().map(|round| round[side])).middle

@@ -3,12 +3,21 @@
 
 use crate::measure::{Side, Times};
 
-/// The sides' places in a line. `READ` is there where a call reads the whole
-/// bundle.
+/// The sides' places in a line.
 const PROVED: usize = 0;
 const RUST: usize = 1;
 const UNCHECKED: usize = 2;
-const READ: usize = 3;
+const LAST: usize = 3;
+
+/// What the last side of a line is, if there is one.
+#[derive(Clone, Copy, PartialEq)]
+pub enum Last {
+    None,
+    /// One read of the bytes.
+    Read,
+    /// So many steps, each a call of the proved machine.
+    Steps(usize),
+}
 
 /// One line: the inputs, and the sides in their places.
 pub struct Line<'a> {
@@ -17,22 +26,32 @@ pub struct Line<'a> {
     /// The machine's times are told a step.
     pub steps: usize,
     pub sides: Vec<Side<'a>>,
+    pub last: Last,
 }
 
-pub fn header() {
+/// The head of lines with this last side.
+pub fn header(last: Last) {
     let against = |side: &str| format!("{side:>12} {:>6}  {:<14}", "ratio", "min .. max");
-    println!(
-        "{:<47} {:>6} {:>10} {} {} {:>9} {:>6} {:>8} {:>6}",
+    let last = match last {
+        Last::None => String::new(),
+        Last::Read => format!(
+            "{:>9} {:>6} {:>8} {:>6}",
+            "read ns", "ratio", "ns/byte", "GB/s"
+        ),
+        Last::Steps(_) => format!(
+            "{:>9} {:>6}  {:<14} {:>8}",
+            "step ns", "times", "min .. max", "Msteps/s"
+        ),
+    };
+    let line = format!(
+        "{:<47} {:>6} {:>10} {} {} {last}",
         "what",
         "bytes",
         "proved ns",
         against("Rust ns"),
         against("unchecked ns"),
-        "read ns",
-        "ratio",
-        "ns/byte",
-        "GB/s"
     );
+    println!("{}", line.trim_end());
 }
 
 impl Line<'_> {
@@ -47,22 +66,37 @@ impl Line<'_> {
             let own = own / self.steps as f64;
             format!("{own:>12.1} {:>6.2}  {spread:<14}", ratio.middle)
         };
-        let whole = match times.sides() > READ {
-            true => format!(
-                "{:>9.1} {:>6.1} {:>8.3} {:>6.2}",
-                times.of(READ),
-                times.ratio(PROVED, READ).middle,
-                proved / bytes as f64,
-                bytes as f64 / proved
-            ),
-            false => String::new(),
-        };
         let line = format!(
-            "{:<47} {bytes:>6} {proved:>10.1} {} {} {whole}",
+            "{:<47} {bytes:>6} {proved:>10.1} {} {} {}",
             self.name,
             against(RUST),
-            against(UNCHECKED)
+            against(UNCHECKED),
+            self.last_columns(&times, bytes as f64, proved)
         );
         println!("{}", line.trim_end());
+    }
+
+    fn last_columns(&self, times: &Times, bytes: f64, proved: f64) -> String {
+        match self.last {
+            Last::None => String::new(),
+            Last::Read => format!(
+                "{:>9.1} {:>6.1} {:>8.3} {:>6.2}",
+                times.of(LAST),
+                times.ratio(PROVED, LAST).middle,
+                proved / bytes,
+                bytes / proved
+            ),
+            Last::Steps(steps) => {
+                let ratio = times.ratio(LAST, PROVED);
+                let by_list = |ratio: f64| ratio * self.steps as f64 / steps as f64;
+                let spread = format!("{:.0} .. {:.0}", by_list(ratio.low), by_list(ratio.high));
+                format!(
+                    "{:>9.1} {:>6.0}  {spread:<14} {:>8.1}",
+                    times.of(LAST) / steps as f64,
+                    by_list(ratio.middle),
+                    1_000.0 / proved
+                )
+            }
+        }
     }
 }

@@ -5,6 +5,7 @@ mod check;
 mod explain;
 mod levels;
 mod order;
+mod run;
 mod show;
 mod trace;
 mod usage;
@@ -26,12 +27,13 @@ struct Command {
 }
 
 /// Every command, in the order in which the help lists them.
-const COMMANDS: [Command; 7] = [
+const COMMANDS: [Command; 8] = [
     check::COMMAND,
     show::COMMAND,
     explain::COMMAND,
     order::COMMAND,
     trace::COMMAND,
+    run::COMMAND,
     usage::COMMAND,
     build::COMMAND,
 ];

@@ -4,7 +4,7 @@ use reference::bundle::Verdict;
 use reference::entries::Raw;
 use usages::Answer;
 
-pub use hveitmar::{answers, digest, record};
+pub use hveitmar::{answers, digest, record, STATE_BYTES};
 
 /// The proved verifier's verdict.
 pub fn verdict(bundle: &[u8]) -> Verdict {
@@ -19,11 +19,20 @@ pub fn ordered(bundle: &[u8], levels: &[u8]) -> Verdict {
 fn numbered(verdict: hveitmar::Verdict) -> Verdict {
     match verdict {
         hveitmar::Verdict::Accepted { classes } => Verdict::new(0, classes, 0),
-        hveitmar::Verdict::Refused(refusal) => {
-            let why = refusal.why().map_or(0, hveitmar::Why::number);
-            Verdict::new(refusal.number(), refusal.class(), refusal.address()).because(why)
-        }
+        hveitmar::Verdict::Refused(refusal) => refused(refusal),
     }
+}
+
+fn refused(refusal: hveitmar::Refusal) -> Verdict {
+    let why = refusal.why().map_or(0, hveitmar::Why::number);
+    Verdict::new(refusal.number(), refusal.class(), refusal.address()).because(why)
+}
+
+/// What a list comes to by the proved call: the number of steps, or the verdict
+/// with which the bundle is refused; and the state's bytes.
+pub fn run(bundle: &[u8], list: &[u8]) -> (Result<u64, Verdict>, [u8; STATE_BYTES]) {
+    let ran = hveitmar::run(bundle, list);
+    (ran.steps.map_err(refused), ran.state)
 }
 
 /// How many objects a thread holds, by the proved machine: its answer and the

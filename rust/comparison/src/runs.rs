@@ -1,8 +1,10 @@
-//! Both machines on the same schedules from the fresh state: every answer; and
-//! the reference's history of each against its counts.
+//! Both machines on the same schedules from the fresh state: every answer; each
+//! as a list that is run at once; and the reference's history of each against
+//! its counts.
 
 use crate::digest::{mixed, of_turns};
 use crate::histories::Histories;
+use crate::lists::Lists;
 use crate::{proved, Answers, Differences, Part};
 use generator::families::{self, contending, recurring, sharing, typed};
 use generator::lively::{FieldUse, Lively};
@@ -31,6 +33,7 @@ pub struct Runs {
     started_with_many: u64,
     fields: FieldUse,
     histories: Histories,
+    lists: Lists,
     /// Steps of a number that no thread has: all, and those that no
     /// schedule's byte can name.
     beyond: u64,
@@ -142,6 +145,7 @@ impl Part for Runs {
         self.compare_far(seed, &bundle, &run);
         self.histories
             .add(&bundle, &run.schedule, seed, &mut self.differences);
+        self.lists.add(&bundle, &run, seed, &mut self.differences);
         self.running += u64::from(first == answer::WENT_ON);
         self.count(&run);
         if contends {
@@ -179,6 +183,7 @@ impl Part for Runs {
             waits,
         } = self.contention;
         println!("  schedules of threads that want the same locks: {schedules}, {steps} steps, {waits} of them waits");
+        self.lists.print();
         println!("  differences: {}", self.differences.0);
     }
 
@@ -206,6 +211,7 @@ impl Part for Runs {
         let named = named.into_iter().chain(self.fields.named());
         let named = named.chain(self.histories.named());
         seen.extend(named.map(|(what, count)| (what.to_string(), count)));
+        seen.extend(self.lists.named());
         seen
     }
 }

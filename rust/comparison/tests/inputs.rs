@@ -4,6 +4,8 @@
 use comparison::digest;
 use comparison::whys::Whys;
 use generator::families::{self, sized};
+use reference::machine::{fresh, step};
+use reference::run::run;
 use reference::verify::verify;
 
 #[test]
@@ -28,4 +30,17 @@ fn endless_threads_never_end() {
         assert_eq!(verify(&b).number, 0);
         assert_eq!(digest::of_run(&b, &sized::turns(threads, 1_000)), 0);
     }
+}
+
+/// Threads that want one lock wait in more than half of their steps.
+#[test]
+fn wanting_threads_wait() {
+    let (b, list) = (sized::wanting(8, 6), sized::wanting_turns(8, 1_000));
+    assert_eq!(verify(&b).number, 0);
+    let ran = run(&b, &list);
+    assert!(ran.state.threads.iter().all(|thread| thread.live));
+    assert!((200..500).contains(&ran.number), "{}", ran.number);
+    let mut state = fresh(&b).1;
+    let answers = list.iter().map(|&t| step(&b, &mut state, t, false));
+    assert!(answers.into_iter().all(|given| given == 0 || given == 3));
 }

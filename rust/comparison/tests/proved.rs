@@ -3,13 +3,13 @@
 use comparison::orders::{inputs, Input};
 use comparison::{digest, proved};
 use generator::builder::{case_a, lay_out, Method, Row};
-use generator::families::{self, recurring, sharing, typed};
+use generator::families::{self, contending, recurring, sharing, typed};
 use generator::rng::Rng;
-use generator::schedule::{any_state, schedule};
+use generator::schedule::{any_state, list, schedule};
 use reference::bundle::{Addr, Bundle, Instr, Verdict};
 use reference::entries::Entry;
 use reference::history::{Event, History, Numbers};
-use reference::machine::{fresh, step};
+use reference::machine::{fresh, step, State};
 use reference::met::Met;
 use reference::slips::Slip;
 use trace::{encode_state, Turn};
@@ -83,6 +83,42 @@ fn meets_in_a_run_of_case_a() {
     assert_eq!(proved::meets(&bundle, &[0x80], 0), None);
     assert_eq!(proved::meets(&[], &[], 0), None);
     assert_eq!(proved::meets(&bundle[1..], &[0], 0), None);
+}
+
+/// Bits 3 to 6 say nothing, threads 1 and 7 were never started, and the top
+/// bit says something to new alone.
+#[test]
+fn lists_of_case_a() {
+    let bundle = lay_out(&[case_a()]);
+    let comes_to = |list: &[u8], number: u64, state: &State| {
+        let (told, bytes) = proved::run(&bundle, list);
+        assert_eq!(told, Ok(number), "{list:x?}");
+        assert_eq!(bytes.as_slice(), encode_state(state), "{list:x?}");
+    };
+    let mut state = fresh(&bundle).1;
+    comes_to(&[], 0, &state);
+    comes_to(&[1, 7, 0x7F, 0xFF], 0, &state);
+    for _ in 0..3 {
+        step(&bundle, &mut state, 0, false);
+    }
+    comes_to(&[0, 0, 0], 3, &state);
+    comes_to(&[0x08, 0x01, 0xF0, 0x7F, 0x78], 3, &state);
+    let mut state = State::EMPTY;
+    state.objects = 2;
+    comes_to(&[0; 8], 7, &state);
+    state.objects = 1;
+    comes_to(&[0xF8, 0], 1, &state);
+}
+
+#[test]
+fn lists_of_refused_bundles() {
+    let mut method = case_a();
+    method.code[4] = Instr::If(Addr(9));
+    let why = Verdict::new(9, 0, 5).because(3);
+    let refused = proved::run(&lay_out(&[method]), &[0; 8]);
+    assert_eq!(refused, (Err(why), [0; proved::STATE_BYTES]));
+    let none = proved::run(&[], &[]);
+    assert_eq!(none, (Err(Verdict::new(1, 0, 0)), [0; proved::STATE_BYTES]));
 }
 
 /// A failed new finds its handler, which drops what was thrown and returns.
@@ -163,6 +199,33 @@ fn holds_otherwise(slip: Slip, seed: u64) -> bool {
 fn a_slipped_machine_differs_from_the_proved_one() {
     for slip in Slip::MACHINE {
         let differing = (0..1_000).filter(|&seed| runs_otherwise(slip, seed));
+        let differing = differing.count();
+        assert!(differing >= 10, "{slip:?}: {differing}");
+    }
+}
+
+/// Whether a list comes to something else.
+fn lists_otherwise(slip: Slip, seed: u64) -> bool {
+    let mut rng = Rng::new(seed);
+    let b = match seed % 2 {
+        0 => contending::contending(&mut rng).lay_out(),
+        _ => families::bundle(seed).1,
+    };
+    let turns = schedule(&b, &fresh(&b).1, seed, 60);
+    let list = list(&mut rng, &turns);
+    let ran = slip.run(&b, &list);
+    let told = match ran.verdict.number {
+        0 => Ok(ran.number),
+        _ => Err(ran.verdict),
+    };
+    let (proved, state) = proved::run(&b, &list);
+    proved != told || state.as_slice() != encode_state(&ran.state)
+}
+
+#[test]
+fn a_slipped_list_differs_from_the_proved_one() {
+    for slip in Slip::LISTS {
+        let differing = (0..400).filter(|&seed| lists_otherwise(slip, seed));
         let differing = differing.count();
         assert!(differing >= 10, "{slip:?}: {differing}");
     }

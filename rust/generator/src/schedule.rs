@@ -92,6 +92,18 @@ pub fn schedule(b: &[u8], start: &State, seed: u64, steps: usize) -> Vec<u8> {
     turns
 }
 
+/// The bits that say nothing in a byte of a list that is run at once.
+pub const IGNORED_IN_LISTS: u8 = 0x78;
+
+/// A schedule as a list that is run at once: the thread is in the low three
+/// bits, and any of those that say nothing are set.
+pub fn list(rng: &mut Rng, schedule: &[u8]) -> Vec<u8> {
+    let bytes = schedule.iter();
+    bytes
+        .map(|&byte| byte & !IGNORED_IN_LISTS | rng.byte() & IGNORED_IN_LISTS)
+        .collect()
+}
+
 /// A state for any bundle: one of its own, at times with a breach; bytes at
 /// random if the bundle has no state of its own.
 pub fn any_state(rng: &mut Rng, b: &[u8]) -> State {

@@ -1,7 +1,8 @@
 /* The proved verifier and machine for C callers: link target/staticlib/libexports.a, which
    `rt staticlib exports` writes. docs/LAW.md says what the numbers mean.
 
-   All calls take any bytes, always come to an end, write into nothing and keep nothing. */
+   All calls take any bytes, always come to an end and keep nothing. None writes but hveitmar_run,
+   into the bytes that are lent for it. */
 #ifndef HVEITMAR_H
 #define HVEITMAR_H
 
@@ -49,6 +50,19 @@ uint32_t hveitmar_held(const uint8_t *bundle, size_t length, const uint8_t *stat
 uint64_t hveitmar_meets(const uint8_t *bundle, size_t length, const uint8_t *schedule, size_t steps,
                         uint8_t thread);
 
+/* Runs a schedule on a bundle that is accepted, from the fresh machine. The bundle is judged once. A
+   step is one byte: the low three bits are the thread, the top bit says that an allocation fails, the
+   others say nothing. Steps that answer 3, 4 or 5 are passed over; no other answer arises.
+   hveitmar_run_answer is 0 where it was run, 19 where the bundle is refused and nothing was run, 24
+   where out has fewer than HVEITMAR_STATE_BYTES and nothing was judged or run.
+   With 0 and 19 the first HVEITMAR_STATE_BYTES of out are the last state, as the program
+   hveitmar_trace takes it; with 19 it has no live thread and no object, and all are 0. All other
+   bytes of out stay as they are. */
+uint64_t hveitmar_run(const uint8_t *bundle, size_t length, const uint8_t *schedule, size_t steps,
+                      uint8_t *out, size_t out_length);
+
+#define HVEITMAR_STATE_BYTES 2537
+
 /* Reads the usage in these bytes, such as L.L.(^L.0*^L.0). hveitmar_number, hveitmar_dip,
    hveitmar_end and hveitmar_reliable take the number apart. */
 uint64_t hveitmar_usage(const uint8_t *text, size_t length);
@@ -81,6 +95,15 @@ static inline unsigned hveitmar_operand(uint64_t met) { return met >> 8 & 0xFF; 
 
 /* The object whose lock monitorenter takes or monitorexit gives back, 0 to 31; else -1. */
 static inline int hveitmar_object(uint64_t met) { return (int)(met >> 32) - 1; }
+
+/* 0, 19 or 24. */
+static inline unsigned hveitmar_run_answer(uint64_t run) { return run & 0xFF; }
+
+/* How many steps answered 0, 1 or 2, where the answer is 0. */
+static inline uint64_t hveitmar_run_steps(uint64_t run) { return run >> 8; }
+
+/* The bundle's verdict, where the answer is 19. */
+static inline uint64_t hveitmar_run_verdict(uint64_t run) { return run >> 8; }
 
 /* How far below its present count a thread may go, 0 to 63; of a refusal 0. */
 static inline unsigned hveitmar_dip(uint64_t usage) { return usage >> 8 & 0xFF; }

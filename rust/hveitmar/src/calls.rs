@@ -1,7 +1,7 @@
 //! The C calls of the proved library; the only unsafe lines are here.
 #![allow(unsafe_code)]
 
-use crate::{Held, Met, Usage, UsageRefusal, Verdict};
+use crate::{Held, Met, Run, RunRefusal, Usage, UsageRefusal, Verdict, STATE_BYTES};
 
 extern "C" {
     fn hveitmar_verdict(bundle: *const u8, length: usize) -> u64;
@@ -34,6 +34,14 @@ extern "C" {
         schedule: *const u8,
         steps: usize,
         thread: u8,
+    ) -> u64;
+    fn hveitmar_run(
+        bundle: *const u8,
+        length: usize,
+        schedule: *const u8,
+        steps: usize,
+        out: *mut u8,
+        out_length: usize,
     ) -> u64;
     fn hveitmar_usage(text: *const u8, length: usize) -> u64;
 }
@@ -214,6 +222,70 @@ pub fn meets(bundle: &[u8], schedule: &[u8], thread: u8) -> Option<Met> {
         )
     };
     Met::unpacked(packed).unwrap_or_else(|| panic!("{packed:x} is nothing that a step meets"))
+}
+
+/// Runs a schedule on a bundle that is accepted, from the fresh machine: how
+/// many steps answered 0, 1 or 2, and the state after the last one. The bundle
+/// is judged once, and one that is refused is not run.
+///
+/// A step is one byte: the low three bits are the thread, the top bit says that
+/// an allocation fails, the others say nothing. Steps that answer 3, 4 or 5 are
+/// passed over; no other answer arises.
+///
+/// ```
+/// use hveitmar::{held, run, Answer, Held};
+///
+/// # let folder = concat!(env!("CARGO_MANIFEST_DIR"), "/../../cases/");
+/// let bundle = std::fs::read(format!("{folder}a.bundle"))?;
+/// // Three steps, and one of a thread that was never started.
+/// let held_now = run(&bundle, &[0, 0, 1, 0]);
+/// assert_eq!(held_now.steps, Ok(3));
+/// assert_eq!(held(&bundle, &held_now.state, 0), Held::Objects(1));
+/// // The seventh step ends thread 0.
+/// let ended = run(&bundle, &[0; 8]);
+/// assert_eq!(ended.steps, Ok(7));
+/// assert_eq!(held(&bundle, &ended.state, 0), Held::Refused(Answer::NotLive));
+/// # Ok::<(), std::io::Error>(())
+/// ```
+pub fn run(bundle: &[u8], schedule: &[u8]) -> Run {
+    let mut state = [0; STATE_BYTES];
+    let steps = run_into(bundle, schedule, &mut state).map_err(|refusal| match refusal {
+        RunRefusal::Bundle(refusal) => refusal,
+        RunRefusal::NoRoom => panic!("{STATE_BYTES} bytes are too few for a state"),
+    });
+    Run { steps, state }
+}
+
+/// The same with the state written into lent bytes, the first 2,537 of them; the
+/// others stay as they are. All do where there are fewer, and then nothing is
+/// judged or run.
+///
+/// ```
+/// use hveitmar::{run_into, RunRefusal};
+///
+/// # let folder = concat!(env!("CARGO_MANIFEST_DIR"), "/../../cases/");
+/// let bundle = std::fs::read(format!("{folder}a.bundle"))?;
+/// let mut out = [7; 2_538];
+/// assert_eq!(run_into(&bundle, &[0], &mut out[..2_536]), Err(RunRefusal::NoRoom));
+/// assert_eq!(out, [7; 2_538]);
+/// assert_eq!(run_into(&bundle, &[0], &mut out), Ok(1));
+/// assert_eq!((out[0], out[3], out[2_537]), (1, 2, 7));
+/// # Ok::<(), std::io::Error>(())
+/// ```
+pub fn run_into(bundle: &[u8], schedule: &[u8], out: &mut [u8]) -> Result<u64, RunRefusal> {
+    // SAFETY: as above, for both slices that are read; of `out`, which nothing
+    // else refers to, the call writes no more than it is told that there are.
+    let packed = unsafe {
+        hveitmar_run(
+            bundle.as_ptr(),
+            bundle.len(),
+            schedule.as_ptr(),
+            schedule.len(),
+            out.as_mut_ptr(),
+            out.len(),
+        )
+    };
+    RunRefusal::unpacked(packed).unwrap_or_else(|| panic!("{packed:x} is no answer of a run"))
 }
 
 /// Reads a usage as the paper writes it, with `*` for its ⊗: its dip and end,

@@ -203,7 +203,7 @@ impl<'a> Class<'a> {
 
     pub fn raw_row(&self, address: Addr) -> RawRow<'a> {
         let length = self.row_length();
-        let start = usize::from(address.0 - 1) * length;
+        let start = (usize::from(address.0) - 1) * length;
         RawRow::read(self.rows.known(start..start + length), self.variables)
     }
 
@@ -234,7 +234,7 @@ impl<'a> Class<'a> {
     /// so that it is told and acted upon by one jump, not by two.
     #[inline(always)]
     pub fn instruction(&self, address: Addr) -> Instr {
-        Instr::read(*self.code.known(usize::from(address.0 - 1)))
+        Instr::read(*self.code.known(usize::from(address.0) - 1))
     }
 }
 
@@ -295,9 +295,7 @@ impl<'a> Bundle<'a> {
     }
 
     pub fn class(&self, number: u8) -> &Class<'a> {
-        self.classes
-            .known(..usize::from(self.count))
-            .known(usize::from(number))
+        self.classes.known(usize::from(number))
     }
 
     /// What a field may hold: Int, or references of a class.

@@ -15,6 +15,7 @@ pub mod machine;
 pub mod met;
 pub mod order;
 pub mod rules;
+pub mod run;
 pub mod slips;
 pub mod state;
 mod throws;

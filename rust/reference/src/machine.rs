@@ -3,10 +3,9 @@
 
 use crate::belongs::belongs_by;
 use crate::bundle::{Addr, Bundle, Class, Field, Instr, Var, INT};
-use crate::instructions::MAX_FIELDS;
 use crate::known::Known;
 use crate::slips::{AsWritten, Law, Slip};
-use crate::state::{MAX_COUNT, OBJECTS, OBJECT_0, PLACES, THREADS};
+use crate::state::{MAX_COUNT, OBJECTS, OBJECT_0, THREADS};
 use std::marker::PhantomData;
 
 pub use crate::state::{State, Thread, Value};
@@ -31,16 +30,21 @@ pub mod answer {
 
 /// A fresh machine: 0 and the state, or 17 and the empty state.
 pub fn fresh(b: &[u8]) -> (u8, State) {
+    match Bundle::open_with_code(b) {
+        Ok(bundle) => (answer::WENT_ON, fresh_in(&bundle)),
+        Err(_) => (answer::BAD_BUNDLE, State::EMPTY),
+    }
+}
+
+/// The fresh machine of a bundle already opened.
+pub fn fresh_in(bundle: &Bundle) -> State {
     let mut state = State::EMPTY;
-    let Ok(bundle) = Bundle::open_with_code(b) else {
-        return (answer::BAD_BUNDLE, state);
-    };
     state.threads[0].live = true;
     state.threads[0].address = 1;
     let exception = bundle.exception();
     let object = state.add_object(exception);
     state.unset_fields(object, bundle.class(exception));
-    (answer::WENT_ON, state)
+    state
 }
 
 /// One step of one thread. The state is changed with the answers 0, 1, 2 and
@@ -204,7 +208,7 @@ impl<L: Law> Turn<'_, L> {
     }
 
     fn new_fails(&self, state: &State) -> bool {
-        self.fails || usize::from(state.objects) >= OBJECTS
+        self.fails || state.is_full()
     }
 
     /// The object whose count monitorenter or monitorexit moves; none is null.
@@ -289,11 +293,13 @@ impl<L: Law> Turn<'_, L> {
             Instr::Enter(v, _) => self.move_count(state, v, |count| count + 1),
             Instr::Exit(v) => self.move_count(state, v, |count| count - 1),
             Instr::New(c, _) => self.make(state, c),
-            Instr::Start(c) => self.start(state, c),
+            Instr::Start(c) => {
+                state.start(self.mover, c, self.bundle.class(c).arguments.len());
+            }
             Instr::Getfield(field, _) => self.getfield(state, field),
             Instr::Putfield(field, _) => self.putfield(state, field),
             Instr::Return => {
-                self.end(state, class);
+                self.thread_mut(state).end(class.variables);
                 return answer::RETURNED;
             }
             own => {
@@ -324,20 +330,13 @@ impl<L: Law> Turn<'_, L> {
     fn compute(&self, thread: &mut Thread, instr: Instr) {
         let mut next = thread.address + 1;
         match instr {
-            Instr::Inc => {
-                if let Value::Int(i) = thread.pop() {
-                    thread.push(Value::Int(i.wrapping_add(1)));
-                }
-            }
+            Instr::Inc => thread.increase(),
             Instr::Pop => {
                 thread.pop();
             }
             Instr::Push0 => thread.push(Value::ZERO),
             Instr::Load(v) => thread.push(thread.variable(v)),
-            Instr::Store(v) => {
-                let value = thread.pop();
-                *thread.variables.known_mut(usize::from(v.0)) = value;
-            }
+            Instr::Store(v) => thread.store(v),
             Instr::If(target) => {
                 if thread.pop() != Value::ZERO {
                     next = target.0;
@@ -373,7 +372,7 @@ impl<L: Law> Turn<'_, L> {
     /// The owner makes way for what its field holds.
     fn getfield(&self, state: &mut State, field: Field) {
         if let Value::Ref(owner) = self.thread_mut(state).pop() {
-            let value = *state.fields.known(place(owner, field));
+            let value = *state.fields.known(State::place(owner, field));
             self.thread_mut(state).push(value);
         }
     }
@@ -382,56 +381,23 @@ impl<L: Law> Turn<'_, L> {
         let thread = self.thread_mut(state);
         let value = thread.pop();
         if let Value::Ref(owner) = thread.pop() {
-            *state.fields.known_mut(place(owner, field)) = value;
+            *state.fields.known_mut(State::place(owner, field)) = value;
         }
     }
 
-    /// The lowest free thread begins; its stack places are left alone.
-    fn start(&self, state: &mut State, class: u8) {
-        let Some(free) = state.threads.iter().position(|t| !t.live) else {
-            return;
-        };
-        let mut variables = [Value::ZERO; PLACES];
-        let starter = self.thread_mut(state);
-        for variable in variables.known_mut(..self.bundle.class(class).arguments.len()) {
-            *variable = starter.pop();
-        }
-        starter.pop();
-        let thread = state.threads.known_mut(free);
-        *thread = Thread {
-            live: true,
-            class,
-            address: 1,
-            depth: 0,
-            variables,
-            ..*thread
-        };
-    }
-
-    /// The handler finds what is thrown alone on its stack.
+    /// Goes to the handler; with none, the thread ends.
     fn throw(&self, state: &mut State, class: &Class, handler: Option<Addr>, thrown: Value) -> u8 {
-        let Some(address) = handler else {
-            self.end(state, class);
-            return answer::UNCAUGHT;
-        };
         let thread = self.thread_mut(state);
-        thread.empty_stack();
-        thread.push(thrown);
-        thread.address = address.0;
-        answer::WENT_ON
-    }
-
-    /// Only places in use become 0; the others keep what they held.
-    fn end(&self, state: &mut State, class: &Class) {
-        let thread = self.thread_mut(state);
-        thread.empty_stack();
-        thread
-            .variables
-            .known_mut(..class.variables)
-            .fill(Value::ZERO);
-        thread.live = false;
-        thread.class = 0;
-        thread.address = 0;
+        match handler {
+            Some(address) => {
+                thread.catch(thrown, address);
+                answer::WENT_ON
+            }
+            None => {
+                thread.end(class.variables);
+                answer::UNCAUGHT
+            }
+        }
     }
 }
 
@@ -457,9 +423,4 @@ fn may_be_put(state: &State, value: Value, descriptor: u8) -> bool {
         Value::Null => descriptor != INT,
         _ => is_as_told(state, value, descriptor),
     }
-}
-
-/// Where the field of an object stands.
-fn place(owner: u8, field: Field) -> usize {
-    usize::from(owner) * MAX_FIELDS + usize::from(field.number)
 }

@@ -10,6 +10,7 @@ use crate::levels::Demands;
 use crate::machine::{self, answer, State};
 use crate::met::{self, Met};
 use crate::order::Levels;
+use crate::run::{self, Ran};
 use crate::verify::{self, Verdict};
 
 /// What a verifier or a machine goes by: the law as written, or with a slip.
@@ -31,8 +32,9 @@ impl Law for AsWritten {
 
 /// All slips in one list: the verifier's, each with the fault that a bundle
 /// let through by it leads to, the machine's, those of the held words, those of
-/// histories, and those of the lock order: after some of these all threads may
-/// wait, others refuse too much or name another breach.
+/// histories, those of the lock order (after some of these all threads may wait,
+/// others refuse too much or name another breach), and those of lists that are
+/// run.
 macro_rules! slips {
     (
         verifier { $($(#[$said:meta])* $judging:ident => $fault:ident,)* }
@@ -41,6 +43,7 @@ macro_rules! slips {
         histories { $($(#[$recalled:meta])* $recalling:ident,)* }
         standstill { $($(#[$stood:meta])* $standing:ident,)* }
         order { $($(#[$ranked:meta])* $ranking:ident,)* }
+        lists { $($(#[$ran:meta])* $running:ident,)* }
     ) => {
         /// One mistake.
         #[derive(Clone, Copy, Debug, PartialEq, Eq)]
@@ -51,6 +54,7 @@ macro_rules! slips {
             $($(#[$recalled])* $recalling,)*
             $($(#[$stood])* $standing,)*
             $($(#[$ranked])* $ranking,)*
+            $($(#[$ran])* $running,)*
         }
 
         /// A law for each slip.
@@ -99,6 +103,13 @@ macro_rules! slips {
                     const SLIP: Option<Slip> = Some(Slip::$ranking);
                 }
             )*
+            $(
+                pub struct $running;
+
+                impl Law for $running {
+                    const SLIP: Option<Slip> = Some(Slip::$running);
+                }
+            )*
         }
 
         impl Slip {
@@ -125,6 +136,9 @@ macro_rules! slips {
             /// Slips of the lock order that refuse too much, take a list that
             /// is none, or name another breach.
             pub const ORDER: [Slip; [$(Slip::$ranking),*].len()] = [$(Slip::$ranking),*];
+
+            /// Slips of the call that runs a list.
+            pub const LISTS: [Slip; [$(Slip::$running),*].len()] = [$(Slip::$running),*];
 
             /// The fault that a bundle let through by this slip leads to; None
             /// for those that are not the verifier's.
@@ -206,6 +220,14 @@ macro_rules! slips {
                         history.numbers_by::<laws::$recalling>(thread, object)
                     })*
                     _ => history.numbers(thread, object),
+                }
+            }
+
+            /// What a list comes to by one who makes this slip.
+            pub fn run(self, b: &[u8], list: &[u8]) -> Ran {
+                match self {
+                    $(Slip::$running => run::run_by::<laws::$running>(b, list),)*
+                    _ => run::run(b, list),
                 }
             }
         }
@@ -338,5 +360,19 @@ slips! {
         SevenLevelsTaken,
         /// 26 comes after every verdict on the bundle.
         ListJudgedLast,
+    }
+    lists {
+        /// A step that answers 3 counts.
+        CountsWaits,
+        /// The thread is told by the low four bits.
+        ThreadOfFourBits,
+        /// Bit 6 says that new fails, not bit 7.
+        BitSixFails,
+        /// The last step is left out.
+        LastStepLeftOut,
+        /// A bundle that is refused by 8, 9 or 10 is run.
+        RefusedIsRun,
+        /// With such a bundle comes its fresh machine.
+        RefusedStateIsFresh,
     }
 }

@@ -1,7 +1,7 @@
 //! What the machine moves: values, threads, counts and held words, objects and
 //! their fields.
 
-use crate::bundle::{Class, Var, INT};
+use crate::bundle::{Addr, Class, Field, Var, INT};
 use crate::instructions::MAX_FIELDS;
 use crate::known::Known;
 
@@ -91,6 +91,35 @@ impl Thread {
         *self.variables.known(usize::from(v.0))
     }
 
+    /// inc; the top is an integer.
+    pub(crate) fn increase(&mut self) {
+        let top = usize::from(self.depth) - 1;
+        if let Value::Int(i) = self.stack.known_mut(top) {
+            *i = i.wrapping_add(1);
+        }
+    }
+
+    pub(crate) fn store(&mut self, v: Var) {
+        let value = self.pop();
+        *self.variables.known_mut(usize::from(v.0)) = value;
+    }
+
+    /// The handler finds what is thrown alone on its stack.
+    pub(crate) fn catch(&mut self, thrown: Value, handler: Addr) {
+        self.empty_stack();
+        self.push(thrown);
+        self.address = handler.0;
+    }
+
+    /// Only places in use become 0; the others keep what they held.
+    pub(crate) fn end(&mut self, variables: usize) {
+        self.empty_stack();
+        self.variables.known_mut(..variables).fill(Value::ZERO);
+        self.live = false;
+        self.class = 0;
+        self.address = 0;
+    }
+
     /// The value `below` places under the top.
     pub(crate) fn peek(&self, below: usize) -> Value {
         *self.stack.known(usize::from(self.depth) - 1 - below)
@@ -110,6 +139,16 @@ impl State {
 
     pub fn count(&self, thread: usize, object: usize) -> u16 {
         *self.counts.known(thread * OBJECTS + object)
+    }
+
+    pub(crate) fn count_mut(&mut self, thread: usize, object: u8) -> &mut u16 {
+        self.counts
+            .known_mut(thread * OBJECTS + usize::from(object))
+    }
+
+    /// Whether there is no room for a further object.
+    pub(crate) fn is_full(&self) -> bool {
+        usize::from(self.objects) >= OBJECTS
     }
 
     /// The thread's counts, one for each object.
@@ -149,6 +188,34 @@ impl State {
         *self.classes.known_mut(usize::from(object)) = class;
         self.objects += 1;
         object
+    }
+
+    /// The lowest free thread begins, with so many arguments from the starter's
+    /// stack, below which the object lies; its stack places are left alone. Gives
+    /// its number; None where no thread is free.
+    pub(crate) fn start(&mut self, starter: usize, class: u8, arguments: usize) -> Option<usize> {
+        let free = self.threads.iter().position(|t| !t.live)?;
+        let mut variables = [Value::ZERO; PLACES];
+        let starter = self.threads.known_mut(starter);
+        for variable in variables.known_mut(..arguments) {
+            *variable = starter.pop();
+        }
+        starter.pop();
+        let thread = self.threads.known_mut(free);
+        *thread = Thread {
+            live: true,
+            class,
+            address: 1,
+            depth: 0,
+            variables,
+            ..*thread
+        };
+        Some(free)
+    }
+
+    /// Where the field of an object stands.
+    pub(crate) fn place(owner: u8, field: Field) -> usize {
+        usize::from(owner) * MAX_FIELDS + usize::from(field.number)
     }
 
     /// Writes an object's four places: null for those that its class uses for

@@ -32,23 +32,29 @@ pub(crate) fn verify_ordered_by<L: Law>(b: &[u8], levels: &[u8]) -> Verdict {
     }
 }
 
-fn told(judged: Result<u8, Verdict>) -> Verdict {
+fn told(judged: Result<Bundle<'_>, Verdict>) -> Verdict {
     match judged {
-        Ok(count) => Verdict::new(0, count, 0),
+        Ok(bundle) => Verdict::new(0, bundle.count(), 0),
         Err(verdict) => verdict,
     }
 }
 
-/// The class count, or the first breach; `ordered` is what a profile asks of
+/// The bundle, if its verdict is 0.
+pub(crate) fn accept(b: &[u8]) -> Result<Bundle<'_>, Verdict> {
+    judge::<AsWritten>(b, |_, _| true)
+}
+
+/// The bundle, or the first breach; `ordered` is what a profile asks of
 /// an address beside its rule.
-fn judge<L: Law>(b: &[u8], ordered: impl Fn(&Class, Addr) -> bool) -> Result<u8, Verdict> {
+#[inline]
+fn judge<L: Law>(b: &[u8], ordered: impl Fn(&Class, Addr) -> bool) -> Result<Bundle<'_>, Verdict> {
     let bundle = Bundle::open_with_code(b)?;
     check_rows(&bundle)?;
     if L::slips(Slip::OrderBehindRules) {
         check_rules::<L>(&bundle, |_, _| true)?;
     }
     check_rules::<L>(&bundle, ordered)?;
-    Ok(bundle.count())
+    Ok(bundle)
 }
 
 /// Verdict 8 over all classes and addresses.

@@ -203,18 +203,22 @@ pub fn encode_output(output: &Output) -> String {
             format_args!("step {number} thread {thread} answer {answer}{fails}"),
         );
     }
+    text + &state_text(&output.state)
+}
+
+/// The lines of a state: its threads, objects and fields.
+pub fn state_text(state: &State) -> String {
+    let mut text = String::new();
     for number in 0..THREADS {
-        thread_line(&mut text, number, &output.state);
+        thread_line(&mut text, number, state);
     }
-    let classes = spaced(&output.state.classes);
+    let (objects, classes) = (state.objects, spaced(&state.classes));
     line(
         &mut text,
-        format_args!("objects {} classes {classes}", output.state.objects),
+        format_args!("objects {objects} classes {classes}"),
     );
-    line(
-        &mut text,
-        format_args!("fields {}", values_text(&output.state.fields)),
-    );
+    let fields = values_text(&state.fields);
+    line(&mut text, format_args!("fields {fields}"));
     text
 }
 

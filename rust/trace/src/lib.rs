@@ -6,7 +6,7 @@ mod turn;
 
 pub use format::{
     decode_input, decode_output, decode_state, encode_input, encode_output, encode_state, follow,
-    run, Input, Output, Step, BAD_INPUT, MAX_STEPS, STATE_BYTES,
+    run, state_text, Input, Output, Step, BAD_INPUT, MAX_STEPS, STATE_BYTES,
 };
 pub use program::Program;
 pub use turn::Turn;

@@ -27,6 +27,8 @@ mod met;
 mod order;
 #[path = "../../reference/src/rules.rs"]
 mod rules;
+#[path = "../../reference/src/run.rs"]
+mod run;
 #[path = "../../reference/src/slips.rs"]
 mod slips;
 #[path = "../../reference/src/state.rs"]
@@ -37,4 +39,5 @@ mod throws;
 mod verify;
 
 pub use machine::{fresh, step, State};
+pub use run::run;
 pub use verify::verify;

@@ -9,19 +9,22 @@
 //! step meets something else, or a lock was taken or given back another number
 //! of times. For a slip of the lock order: a bundle that only the slipped
 //! verifier accepts, under levels that it takes to do, and a schedule after
-//! which all threads wait; or a bundle and a list of which it says something
-//! else. For a slip of the reader of usages: a text that it answers otherwise.
+//! which all threads wait; or a bundle and a list of levels of which it says
+//! something else. For a slip of the call that runs a list: a bundle and a list
+//! that come to something else. For a slip of the reader of usages: a text that
+//! it answers otherwise.
 
 use comparison::orders::{inputs, Input};
 use comparison::progress::{next_answers, stands_still};
-use generator::families::{nesting, recurring, sharing, typed};
+use generator::families::{self, contending, nesting, recurring, sharing, typed};
 use generator::rng::Rng;
-use generator::schedule::{any_state, Scheduler};
+use generator::schedule::{any_state, list, schedule, Scheduler};
 use generator::texts::text;
 use reference::bundle::Bundle;
 use reference::history::History;
 use reference::machine::{answer, fresh, held_in, step_in};
 use reference::met::met_in;
+use reference::run::{run, Ran};
 use reference::slips::Slip;
 use reference::state::{OBJECTS, THREADS};
 use reference::verify::{verify, verify_ordered};
@@ -33,6 +36,7 @@ const BUNDLES: u64 = 20_000;
 const SCHEDULES: u64 = 20;
 const STEPS: usize = 400;
 const HELD_STEPS: usize = 20;
+const LIST_STEPS: usize = 100;
 const TEXTS: u64 = 20_000;
 
 fn main() -> ExitCode {
@@ -44,6 +48,7 @@ fn main() -> ExitCode {
     let standstill =
         Slip::STANDSTILL.map(|slip| (slip, (0..BUNDLES).find_map(|s| stopped(slip, s))));
     let order = Slip::ORDER.map(|slip| (slip, (0..BUNDLES).find_map(|s| misordered(slip, s))));
+    let lists = Slip::LISTS.map(|slip| (slip, (0..BUNDLES).find_map(|s| misrun(slip, s))));
     let named = |(slip, found)| (format!("{slip:?}"), found);
     let reader = SLIPS.map(|(name, slipped)| {
         let found = (0..TEXTS).find_map(|seed| misread(slipped, seed));
@@ -52,7 +57,7 @@ fn main() -> ExitCode {
     let mut all_found = true;
     let all = verifier.into_iter().chain(machine).chain(words);
     let all = all.chain(histories).chain(standstill).chain(order);
-    let all = all.map(named);
+    let all = all.chain(lists).map(named);
     for (slip, found) in all.chain(reader) {
         all_found &= found.is_some();
         println!("{slip}: {}", found.unwrap_or("not found".to_string()));
@@ -208,7 +213,8 @@ fn stop(bundle: &Bundle, b: &[u8], seed: u64) -> Option<usize> {
     })
 }
 
-/// A bundle and a list of which the slipped verifier says something else.
+/// A bundle and a list of levels of which the slipped verifier says something
+/// else.
 fn misordered(slip: Slip, seed: u64) -> Option<String> {
     inputs(seed).iter().find_map(|Input { bundle, list, .. }| {
         let (other, truth) = (
@@ -217,6 +223,28 @@ fn misordered(slip: Slip, seed: u64) -> Option<String> {
         );
         (other != truth).then(|| format!("seed {seed} levels {list:?} {other} for {truth}"))
     })
+}
+
+/// A list that comes to something else.
+fn misrun(slip: Slip, seed: u64) -> Option<String> {
+    let mut rng = Rng::new(seed);
+    let b = match seed % 2 {
+        0 => contending::contending(&mut rng).lay_out(),
+        _ => families::bundle(seed).1,
+    };
+    let turns = schedule(&b, &fresh(&b).1, seed, LIST_STEPS);
+    let list = list(&mut rng, &turns);
+    let (other, truth) = (slip.run(&b, &list), run(&b, &list));
+    let told = |ran: &Ran| match ran.verdict.number {
+        0 => format!("ran {}", ran.number),
+        _ => ran.verdict.to_string(),
+    };
+    let states = match other.state == truth.state {
+        true => "the same state",
+        false => "another state",
+    };
+    let told = format!("\"{}\" for \"{}\", {states}", told(&other), told(&truth));
+    (other != truth).then(|| format!("seed {seed} {told}"))
 }
 
 /// A text of which the slipped reader says something else.

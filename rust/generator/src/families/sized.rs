@@ -162,36 +162,77 @@ fn striped_method(length: usize, size: (usize, usize)) -> Method {
 /// The class of the threads that an endless main thread starts.
 const STARTED: u8 = 1;
 
-/// A method that never ends: it starts so many threads, and then throws its
-/// object to a handler before the block, again and again.
+/// What a method has at rest: an object in variable 0, an integer in 1.
+const AT_REST: [Entry; 2] = [Entry::fresh(0), Entry::Int];
+
+impl Stripe {
+    /// From rest on without an end: the object is thrown to a handler before the
+    /// block, again and again.
+    fn forever(mut self) -> Method {
+        self.add(Instr::Load(Var(0)), AT_REST, &[]);
+        let handler = Addr(self.code.len() as u16 + 1);
+        self.add(Instr::Pop, AT_REST, &[Entry::fresh(0)]);
+        self.block();
+        self.add(Instr::Load(Var(0)), AT_REST, &[]);
+        self.end(Instr::Athrow(Some(handler)), &[Entry::fresh(0)])
+    }
+}
+
+/// A method that never ends, and starts so many threads before.
 fn endless_method(starts: usize) -> Method {
-    let (free, at_rest) = (Entry::fresh(0), [Entry::fresh(0), Entry::Int]);
     let mut stripe = Stripe::new(NARROW);
     stripe.begin();
     for _ in 0..starts {
-        stripe.add(Instr::New(STARTED, None), at_rest, &[]);
-        stripe.add(Instr::Start(STARTED), at_rest, &[Entry::fresh(STARTED)]);
+        stripe.add(Instr::New(STARTED, None), AT_REST, &[]);
+        stripe.add(Instr::Start(STARTED), AT_REST, &[Entry::fresh(STARTED)]);
     }
-    stripe.add(Instr::Load(Var(0)), at_rest, &[]);
-    let handler = Addr(stripe.code.len() as u16 + 1);
-    stripe.add(Instr::Pop, at_rest, &[free]);
-    stripe.block();
-    stripe.add(Instr::Load(Var(0)), at_rest, &[]);
-    stripe.end(Instr::Athrow(Some(handler)), &[free])
+    stripe.forever()
 }
 
 /// So many threads that never end, beside the methods of `others` further
-/// classes.
+/// classes. Each has an object of its own.
 pub fn endless(threads: usize, others: usize) -> Vec<u8> {
-    let mut methods = vec![endless_method(threads - 1), endless_method(0)];
+    beside(others, vec![endless_method(threads - 1), endless_method(0)])
+}
+
+/// The same with one object for all: most of their steps wait.
+pub fn wanting(threads: usize, others: usize) -> Vec<u8> {
+    let (object, started) = (Entry::fresh(0), Entry::fresh(STARTED));
+    let mut main = Stripe::new(NARROW);
+    main.begin();
+    for _ in 1..threads {
+        main.add(Instr::New(STARTED, None), AT_REST, &[]);
+        main.add(Instr::Load(Var(0)), AT_REST, &[started]);
+        main.add(Instr::Start(STARTED), AT_REST, &[object, started]);
+    }
+    let mut other = Stripe::new(NARROW);
+    other.add(Instr::Push0, [object, Entry::Top], &[]);
+    other.add(Instr::Store(Var(1)), [object, Entry::Top], &[Entry::Int]);
+    let other = Method {
+        arguments: vec![0],
+        ..other.forever()
+    };
+    beside(others, vec![main.forever(), other])
+}
+
+fn beside(others: usize, mut methods: Vec<Method>) -> Vec<u8> {
     methods.extend(vec![striped_method(250, NARROW); others]);
     lay_out(&methods)
 }
 
-/// A schedule for them: all are started, and then take their steps in turn.
+/// A schedule for threads that never end: all are started, and then take their
+/// steps in turn.
 pub fn turns(threads: usize, steps: usize) -> Vec<u8> {
-    // What main does before it has started all of them.
-    let alone = 4 + 2 * (threads - 1);
+    in_turn(4 + 2 * (threads - 1), threads, steps)
+}
+
+/// The same for those that want one object.
+pub fn wanting_turns(threads: usize, steps: usize) -> Vec<u8> {
+    in_turn(4 + 3 * (threads - 1), threads, steps)
+}
+
+/// `alone` is what main does before it has started all of them.
+fn in_turn(alone: usize, threads: usize, steps: usize) -> Vec<u8> {
     (0..steps)
         .map(|step| (step.saturating_sub(alone) % threads) as u8)
         .collect()

@@ -49,7 +49,7 @@ impl Writer<'_> {
             Slip::PutfieldOfTop => self.put_top(v),
             Slip::PutfieldOfAnyClass => self.put_other(v),
             Slip::PutfieldDropsValue => self.put_lock_away(v),
-            // Not the verifier's.
+            // Those that are not the verifier's.
             _ => false,
         }
     }
