@@ -83,7 +83,7 @@ pub fn width(k: Class) -> usize
 }
 
 // The bytes of one record.
-fn size(k: Class) -> usize
+pub fn size(k: Class) -> usize
     ensures { λ r. ⌜ (r ≡ size k) × (r < 268435456) ⌝ }
 {
     k.args as usize + k.fields as usize + 4 * (k.code as usize) + (k.code as usize) * width(k)

@@ -125,7 +125,7 @@ pub fn class_of(n: u8, w: u32) -> u8
     }
 }
 
-fn dip_of(n: u8, w: u32) -> u16
+pub fn dip_of(n: u8, w: u32) -> u16
     ensures { λ r. ⌜ (r ≡ dipOf (entryFrom n w)) × (r ≤ 255) ⌝ }
 {
     if is_reference(n, w) {
@@ -135,7 +135,7 @@ fn dip_of(n: u8, w: u32) -> u16
     }
 }
 
-fn end_of(n: u8, w: u32) -> u16
+pub fn end_of(n: u8, w: u32) -> u16
     ensures { λ r. ⌜ (r ≡ endOf (entryFrom n w)) × (r ≤ 255) ⌝ }
 {
     if is_reference(n, w) {

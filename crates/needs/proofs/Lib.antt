@@ -1,0 +1,7 @@
+pub mod Entries
+pub mod Rows
+pub mod Edges
+pub mod Throws
+pub mod Rules
+pub mod Programs
+pub mod Stacks

@@ -1,0 +1,4 @@
+pub mod FirstBroken
+pub mod Entries
+pub mod Places
+pub mod Readable

@@ -1,0 +1,4 @@
+pub mod PairBytes
+pub mod Shape
+pub mod Apart
+pub mod Loops
