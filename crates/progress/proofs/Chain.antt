@@ -27,13 +27,14 @@ use Rattle.state.specs.declared.State.{State}
 use Rattle.state.specs.State.{threadAt, countOf, classOf, freeOf, othersFree}
 use Rattle.machine.specs.Faults.{lockOf}
 use Rattle.soundness.proofs.Held.{held}
-use Rattle.soundness.proofs.Kind.{Matches, nope, ref-value, nullable-value, not-null}
-use Rattle.soundness.proofs.Weights.{names}
-use Rattle.soundness.proofs.Slots.{slotOf, slot-var, slot-novar, slot-stack, slot-nostack}
-use Rattle.soundness.proofs.Values.{valueOf, value-var}
+use Rattle.soundness.specs.Balance.{Matches, names, slotOf, valueOf}
+use Rattle.soundness.specs.Invariant.{entryAt, Live, Inv}
+use Rattle.soundness.proofs.Kind.{nope, ref-value, nullable-value, not-null}
+use Rattle.soundness.proofs.Slots.{slot-var, slot-novar, slot-stack, slot-nostack}
+use Rattle.soundness.proofs.Values.{value-var}
 use Rattle.soundness.proofs.Stands.{variable-kind}
 use Rattle.soundness.proofs.Accepted.{Accepted}
-use Rattle.soundness.proofs.Invariant.{entryAt, Live, Inv, vars-16, limit-16, depth-limit, holder}
+use Rattle.soundness.proofs.Invariant.{vars-16, limit-16, depth-limit, holder}
 use Rattle.progress.specs.Progress.{Lives}
 use Rattle.progress.proofs.Waits.{Waiting}
 

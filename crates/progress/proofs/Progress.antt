@@ -21,7 +21,7 @@ use Rattle.state.specs.State.{threadAt, classOf}
 use Rattle.machine.specs.Runs.{Step, answer, reached}
 use Rattle.soundness.specs.Sound.{heldBy, next}
 use Rattle.soundness.proofs.Verified.{accepted}
-use Rattle.soundness.proofs.Invariant.{Inv}
+use Rattle.soundness.specs.Invariant.{Inv}
 use Rattle.soundness.proofs.Demand3.{inv-reached}
 use Rattle.progress.specs.Progress.{Lives, Goes, Progress}
 use Rattle.progress.specs.Waiting.{Waits, WaitsFor, HeldUp, Chain, WaitingHeld, LevelsFall, NeverEachOther, NoCircle}

@@ -28,7 +28,7 @@ use Rattle.machine.proofs.Refusals.{refuses, draws, methodHere}
 use Rattle.machine.proofs.Kept.{moves}
 use Rattle.soundness.specs.Sound.{next}
 use Rattle.soundness.proofs.Verified.{accepted}
-use Rattle.soundness.proofs.Invariant.{Inv}
+use Rattle.soundness.specs.Invariant.{Inv}
 use Rattle.soundness.proofs.Steps.{no-fault}
 use Rattle.progress.specs.Progress.{Lives}
 

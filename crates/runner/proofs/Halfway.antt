@@ -32,7 +32,7 @@ use Rattle.machine.specs.Moves.{firstFields}
 use Rattle.machine.specs.Machine.{mainThread, readable, freshState, freshOf}
 use Rattle.machine.specs.Runs.{answer, after, run, reached}
 use Rattle.soundness.proofs.Verified.{accepted as judged}
-use Rattle.soundness.proofs.Invariant.{Inv}
+use Rattle.soundness.specs.Invariant.{Inv}
 use Rattle.soundness.proofs.Fresh.{inv-fresh}
 use Rattle.soundness.proofs.Demand3.{inv-after}
 use Rattle.memory.specs.Tab.{tab}

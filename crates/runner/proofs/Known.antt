@@ -34,7 +34,8 @@ use Rattle.machine.specs.Waits.{waitOf}
 use Rattle.machine.specs.Moves.{moveOf}
 use Rattle.machine.specs.Machine.{readable, runOf, stepOf}
 use Rattle.soundness.proofs.Accepted.{Accepted}
-use Rattle.soundness.proofs.Invariant.{Live, placed, vars-16, limit-16, depth-limit, state-ok}
+use Rattle.soundness.specs.Invariant.{Live}
+use Rattle.soundness.proofs.Invariant.{placed, vars-16, limit-16, depth-limit, state-ok}
 use Rattle.soundness.proofs.Verified.{accepted as judged}
 use Rattle.soundness.proofs.Steps.{no-fault}
 use Rattle.memory.specs.Frames.{liveIn, classIn, addressIn, depthIn, threadIn}

@@ -6,7 +6,7 @@ use Prim.Native.Nat.{ℕ, _<_}
 use Rattle.rows.specs.Typed.{typedOf}
 use Rattle.verifier.specs.Verdict.{verdictOf}
 use Rattle.machine.specs.Machine.{stepOf}
-use Rattle.soundness.proofs.Invariant.{Inv}
+use Rattle.soundness.specs.Invariant.{Inv}
 use Rattle.memory.specs.Tab.{tab}
 use Rattle.memory.specs.Frames.{liveIn}
 use Rattle.runner.specs.Table.{rowOf}

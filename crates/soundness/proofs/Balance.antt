@@ -9,20 +9,9 @@ use Rattle.ground.specs.Bounded.{sumBelow}
 use Rattle.ground.proofs.Sums.{sum-le, sum-one, sum-two, sum-ge, sum-term, sum-some}
 use Rattle.entries.specs.Entries.{Entry, Blank, noEnd, dipOf, endOf}
 use Rattle.values.specs.declared.Value.{Value}
-use Rattle.soundness.proofs.Kind.{Matches, more-kind}
-use Rattle.soundness.proofs.Weights.{names, dip, end, cond-le, cond-top, cond-low, Weaker, far-end, Slot}
-
-abbrev pub dipSum : ℕ → (ℕ → Entry) → (ℕ → Value) → ℕ
-dipSum o E v = sumBelow 32 (λ s. dip o (E s) (v s))
-
-abbrev pub endSum : ℕ → (ℕ → Entry) → (ℕ → Value) → ℕ
-endSum o E v = sumBelow 32 (λ s. end o (E s) (v s))
-
--- each value is of its entry's kind; the dips on an object are covered by its count, and what is held is to be given back by the ends (2048 is 32 times their 64)
-pub record Balanced (n : ℕ) (cls : ℕ → ℕ) (E : ℕ → Entry) (v : ℕ → Value) (k : ℕ → ℕ) : Type 0 where
-  pub kinds : (s : ℕ) → s < 32 → Matches n cls (E s) (v s)
-  pub dips : (o : ℕ) → o < 32 → dipSum o E v ≤ k o
-  pub ends : (o : ℕ) → o < 32 → k o + endSum o E v ≤ 2048
+use Rattle.soundness.specs.Balance.{Matches, names, dip, end, Balanced}
+use Rattle.soundness.proofs.Kind.{more-kind}
+use Rattle.soundness.proofs.Weights.{cond-le, cond-top, cond-low, Weaker, far-end, Slot}
 
 sum-most : (n : ℕ) (f : ℕ → ℕ) (c : ℕ) → ((i : ℕ) → i < n → f i ≤ c) → sumBelow n f ≤ c * n
 unfolding sumBelow

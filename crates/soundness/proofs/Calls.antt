@@ -6,7 +6,7 @@ use Rattle.verifier.specs.Verdict.{verdictOf}
 use Rattle.state.specs.declared.State.{State}
 use Rattle.machine.specs.Runs.{run}
 use Rattle.soundness.specs.Calls.{Call, Answered, Called, given, Served, CallsServed}
-use Rattle.soundness.proofs.Invariant.{Inv}
+use Rattle.soundness.specs.Invariant.{Inv}
 use Rattle.soundness.proofs.Demand3.{P, inv-after, inv-reached, safe, sound}
 
 module _ (b : List ℕ) (e : verdictOf b .number ≡ 0) where

@@ -19,8 +19,9 @@ use Rattle.machine.specs.Machine.{readable, freshOf, stepOf}
 use Rattle.machine.specs.Runs.{Step, answer, after, run, reached}
 use Rattle.machine.proofs.Refusals.{refuses}
 use Rattle.soundness.specs.Sound.{Safe, Sound, Demand3}
+use Rattle.soundness.specs.Invariant.{Inv}
 use Rattle.soundness.proofs.Verified.{accepted}
-use Rattle.soundness.proofs.Invariant.{Inv, bounded, state-ok}
+use Rattle.soundness.proofs.Invariant.{bounded, state-ok}
 use Rattle.soundness.proofs.Moves.{Good, given}
 use Rattle.soundness.proofs.Fresh.{inv-fresh}
 use Rattle.soundness.proofs.Steps.{run-good, exit-held}

@@ -30,15 +30,16 @@ use Rattle.state.specs.State.{threadAt, countOf, classOf, isFree, holdsNothing}
 use Rattle.machine.specs.Answers.{test}
 use Rattle.machine.specs.Faults.{endFault, throwFault, athrowFault}
 use Rattle.machine.specs.Moves.{wentTo, endMove, caught, throwMove, failMove}
+use Rattle.soundness.specs.Balance.{Matches, valueOf, Stands}
+use Rattle.soundness.specs.Invariant.{entryAt, Asleep, Inv}
 use Rattle.soundness.proofs.Balance.{all-go}
-use Rattle.soundness.proofs.Kind.{Matches, null-entry, object-is}
+use Rattle.soundness.proofs.Kind.{null-entry, object-is}
 use Rattle.soundness.proofs.Held.{AllFit, held}
 use Rattle.soundness.proofs.Weights.{goes-end}
 use Rattle.soundness.proofs.Slots.{all-end}
-use Rattle.soundness.proofs.Values.{valueOf, pushed-is}
+use Rattle.soundness.proofs.Values.{pushed-is}
 use Rattle.soundness.proofs.Accepted.{Accepted}
-use Rattle.soundness.proofs.Stands.{Stands, entry-kind, pop-stands, push-stands, throw-stands}
-use Rattle.soundness.proofs.Invariant.{entryAt, Asleep, Inv}
+use Rattle.soundness.proofs.Stands.{entry-kind, pop-stands, push-stands, throw-stands}
 use Rattle.soundness.proofs.Moves.{others, asleep-standing, thread-moves, Fine, branches}
 use Rattle.soundness.proofs.Goes.{v16, d16, at-here, goes-to}
 

@@ -16,7 +16,7 @@ use Rattle.values.specs.declared.Slot.{Slot}
 use Rattle.values.specs.Values.{zeroSlot, nullSlot}
 use Rattle.state.specs.State.{fieldOf, fieldsWith}
 use Rattle.machine.specs.Moves.{firstField, firstFields}
-use Rattle.soundness.proofs.Kind.{Matches}
+use Rattle.soundness.specs.Balance.{Matches}
 
 -- what a field holds weighs nothing
 pub field-pair : (d : ℕ) → (dipOf (fieldEntry d) ≡ 0) × (endOf (fieldEntry d) ≡ noEnd)

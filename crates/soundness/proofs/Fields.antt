@@ -26,13 +26,14 @@ use Rattle.state.specs.declared.State.{State}
 use Rattle.state.specs.State.{threadAt, countOf, classOf, fieldOf, withField}
 use Rattle.machine.specs.Faults.{throwFault, mayBeObject, getFault, putFault}
 use Rattle.machine.specs.Moves.{wentOn, failMove, getMove, putMove}
+use Rattle.soundness.specs.Balance.{Matches, Stands}
+use Rattle.soundness.specs.Invariant.{Inv}
 use Rattle.soundness.proofs.Held.{AllFit, held}
-use Rattle.soundness.proofs.Kind.{Matches, nullable-value, not-null, ref-value, field-kind, may-be-object-is, field-value-is}
+use Rattle.soundness.proofs.Kind.{nullable-value, not-null, ref-value, field-kind, may-be-object-is, field-value-is}
 use Rattle.soundness.proofs.Weights.{goes-end}
 use Rattle.soundness.proofs.FieldPlaces.{field-pair}
 use Rattle.soundness.proofs.Accepted.{Accepted}
-use Rattle.soundness.proofs.Stands.{Stands, entry-kind, pop-stands, top-stands, fit-stands}
-use Rattle.soundness.proofs.Invariant.{Inv}
+use Rattle.soundness.proofs.Stands.{entry-kind, pop-stands, top-stands, fit-stands}
 use Rattle.soundness.proofs.Moves.{others, live-standing, thread-moves, field-moves, Good, went, Fine, branches}
 use Rattle.soundness.proofs.Goes.{arrives, v16, d16, at-here, goes-to}
 use Rattle.soundness.proofs.Ends.{null-fine}

@@ -26,16 +26,16 @@ use Rattle.machine.specs.Moves.{firstFields}
 use Rattle.machine.specs.Machine.{mainThread, freshState}
 use Rattle.held.proofs.Word.{no-bits}
 use Rattle.machine.proofs.Changes.{grown}
-use Rattle.soundness.proofs.Kind.{Matches}
+use Rattle.soundness.specs.Balance.{Matches, slotOf, valueIn}
+use Rattle.soundness.specs.Invariant.{entryAt, Live, Inv}
 use Rattle.soundness.proofs.Held.{compared}
 use Rattle.soundness.proofs.Weights.{same-weaker, meets-weaker, gone-slot, fresh-slot}
 use Rattle.soundness.proofs.Weights as weights
 use Rattle.soundness.proofs.Balance.{keep-all, none-balanced}
-use Rattle.soundness.proofs.Slots.{slotOf, slot-var, slot-novar, slot-nostack}
-use Rattle.soundness.proofs.Values.{valueIn, value-zero}
+use Rattle.soundness.proofs.Slots.{slot-var, slot-novar, slot-nostack}
+use Rattle.soundness.proofs.Values.{value-zero}
 use Rattle.soundness.proofs.FieldPlaces.{fields-length, fields-written, made-kind}
 use Rattle.soundness.proofs.Accepted.{Accepted}
-use Rattle.soundness.proofs.Invariant.{entryAt, Live, Inv}
 use Rattle.soundness.proofs.Moves.{others, live-standing, asleep-standing, thread-moves, grown-is}
 
 abbrev pub born : ℕ → List Slot → List Slot → Thread

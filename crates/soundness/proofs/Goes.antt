@@ -12,10 +12,12 @@ use Rattle.state.specs.declared.State.{State}
 use Rattle.state.specs.State.{threadAt, countOf, classOf}
 use Rattle.machine.specs.Moves.{wentTo}
 use Rattle.matching.specs.Matching.{wants, edge}
+use Rattle.soundness.specs.Balance.{Stands}
+use Rattle.soundness.specs.Invariant.{Live, Inv}
 use Rattle.soundness.proofs.Held.{Fits}
 use Rattle.soundness.proofs.Accepted.{Accepted}
-use Rattle.soundness.proofs.Stands.{Stands, fit-stands}
-use Rattle.soundness.proofs.Invariant.{Live, Inv, vars-16, limit-16, depth-limit}
+use Rattle.soundness.proofs.Stands.{fit-stands}
+use Rattle.soundness.proofs.Invariant.{vars-16, limit-16, depth-limit}
 use Rattle.soundness.proofs.Moves.{Good, went-as}
 
 -- a thread that stands at the row of an address, and goes there, is live

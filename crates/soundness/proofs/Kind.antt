@@ -16,23 +16,7 @@ use Rattle.values.specs.declared.Value.the-variants.{Int as num, Ref as obj, Nu
 use Rattle.values.specs.Values.{isIntValue, isNullValue, isNull, isRefValue, objectOfValue, refersValue, incValue}
 use Rattle.values.specs.Values as values
 use Rattle.machine.specs.Faults.{isObject, mayBeObject, isFieldValue}
-
--- `Blank` is a place that is not in use: any value may be left there
-abbrev pub Matches : ℕ → (ℕ → ℕ) → Entry → Value → Type 0
-Matches n cls Int (num z) = Unit
-Matches n cls Int (obj r) = ⊥
-Matches n cls Int null = ⊥
-Matches n cls Top (num z) = Unit
-Matches n cls Top (obj r) = r < n
-Matches n cls Top null = Unit
-Matches n cls (Ref c d e) (num z) = ⊥
-Matches n cls (Ref c d e) (obj r) = (r < n) × (cls r ≡ c)
-Matches n cls (Ref c d e) null = ⊥
-Matches n cls (Nullable c) (num z) = ⊥
-Matches n cls (Nullable c) (obj r) = (r < n) × (cls r ≡ c)
-Matches n cls (Nullable c) null = Unit
-Matches n cls Blank v = Unit
-Matches n cls Malformed v = Unit
+use Rattle.soundness.specs.Balance.{Matches}
 
 pub nope : {A : Type 0} → false ≡ true → A
 nope e = absurd (false≢true e)

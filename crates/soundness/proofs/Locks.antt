@@ -31,12 +31,14 @@ use Rattle.machine.specs.Answers.{test}
 use Rattle.machine.specs.Faults.{lockOf, enterFault, exitFault}
 use Rattle.machine.specs.Waits.{enterWait}
 use Rattle.machine.specs.Moves.{counted, enterMove, exitMove}
+use Rattle.soundness.specs.Balance.{Matches, Stands}
+use Rattle.soundness.specs.Invariant.{Inv}
 use Rattle.soundness.proofs.Held.{Meets, Fits, held}
-use Rattle.soundness.proofs.Kind.{Matches, nullable-value, not-null, no-int}
+use Rattle.soundness.proofs.Kind.{nullable-value, not-null, no-int}
 use Rattle.soundness.proofs.Weights.{nullable-goes}
 use Rattle.soundness.proofs.Accepted.{Accepted}
-use Rattle.soundness.proofs.Stands.{Stands, fit-stands, variable-kind, as-stands, is-object, object-known, dip-promises, enter-stands, exit-stands, fits-at}
-use Rattle.soundness.proofs.Invariant.{Inv, bounded}
+use Rattle.soundness.proofs.Stands.{fit-stands, variable-kind, as-stands, is-object, object-known, dip-promises, enter-stands, exit-stands, fits-at}
+use Rattle.soundness.proofs.Invariant.{bounded}
 use Rattle.soundness.proofs.Moves.{Others, others, live-standing, thread-moves, count-other, count-same, count-moves, Good, went, Fine, branches}
 use Rattle.soundness.proofs.Goes.{arrives, v16, d16, at-here}
 use Rattle.soundness.proofs.Ends.{null-fine}

@@ -27,11 +27,12 @@ use Rattle.state.specs.State.{threadAt, countOf, classOf}
 use Rattle.machine.specs.Faults.{pushFault, newFails, newFault}
 use Rattle.machine.specs.Moves.{firstFields, makeMove, newMove}
 use Rattle.machine.proofs.Changes.{grown}
+use Rattle.soundness.specs.Balance.{Stands}
+use Rattle.soundness.specs.Invariant.{Live, Inv}
 use Rattle.soundness.proofs.Held.{Fits, held}
 use Rattle.soundness.proofs.Values.{pushed-is}
 use Rattle.soundness.proofs.Accepted.{Accepted}
-use Rattle.soundness.proofs.Stands.{Stands, push-stands, fit-stands}
-use Rattle.soundness.proofs.Invariant.{Live, Inv}
+use Rattle.soundness.proofs.Stands.{push-stands, fit-stands}
 use Rattle.soundness.proofs.Moves.{others, standing-more, live-standing, thread-moves, object-grows, grown-is, Good, went, Fine, branches}
 use Rattle.soundness.proofs.Goes.{arrives, v16, d16, at-here, has-room}
 use Rattle.soundness.proofs.Ends.{failed-fine}

@@ -21,12 +21,12 @@ use Rattle.machine.specs.declared.Stepped.{Stepped}
 use Rattle.machine.specs.Answers.{refused}
 use Rattle.machine.specs.Moves.{firstFields}
 use Rattle.machine.proofs.Changes.{Sized, counted-sized, words-written, grown}
-use Rattle.soundness.proofs.Kind.{Matches, more-kind}
+use Rattle.soundness.specs.Balance.{Matches, valueOf}
+use Rattle.soundness.specs.Invariant.{entryAt, Live, Asleep, Standing, Whole, StandingAt, Inv}
+use Rattle.soundness.proofs.Kind.{more-kind}
 use Rattle.soundness.proofs.FieldPlaces.{written, fields-length, fields-written, made-kind}
 use Rattle.soundness.proofs.Accepted.{Accepted}
 use Rattle.soundness.proofs.Balance.{balanced-more}
-use Rattle.soundness.proofs.Values.{valueOf}
-use Rattle.soundness.proofs.Invariant.{entryAt, Live, Asleep, Standing, Whole, StandingAt, Inv}
 
 -- the invariant, but for thread i
 pub record Others (P : Typed) (s : State) (i : ℕ) : Type 0 where

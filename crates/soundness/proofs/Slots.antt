@@ -2,22 +2,17 @@
 use Prim.Native.Nat.{ℕ, suc, _+_, _-_, _≤_, _<_}
 use mathlib.Core.Path.{_≡_, refl, sym, _∙_}
 use mathlib.Core.Logic.{_≢_}
-use mathlib.Core.Bool.{true, cond}
+use mathlib.Core.Bool.{true}
 use native.Mathlib.Omega.{arith}
 use native.Mathlib.Decide.{decLt}
-use lib.Dec.{ltb}
 use borrow.Author.Tests.{eq-eqb, ne-eqb, lt-ltb, le-ltb}
 use Rattle.ground.proofs.Bounded.{all-elim}
 use Rattle.entries.specs.Entries.{Entry, Blank, noEnd, endOf}
 use Rattle.rows.specs.Rows.{Row}
 use Rattle.matching.specs.Matching.{popped, pushed, stored, wants, edge, varGoes, varsGo, entryGoes, stackGoes}
+use Rattle.soundness.specs.Balance.{slotOf}
 use Rattle.soundness.proofs.Held.{Fits}
 use Rattle.soundness.proofs.Weights.{Weaker, same-weaker, meets-weaker, goes-end}
-
-unfoldable pub slotOf : ℕ → Row → ℕ → Entry
-slotOf vars x s =
-    cond (ltb s 16) (cond (ltb s vars) (x .variable s) Blank)
-    (cond (ltb (s - 16) (x .depth)) (x .stack (x .depth - (s - 16) - 1)) Blank)
 
 module _ (vars : ℕ) (v16 : vars ≤ 16) (x : Row) where
   pub slot-var : (s : ℕ) → s < vars → slotOf vars x s ≡ x .variable s

@@ -27,13 +27,14 @@ use Rattle.state.specs.State.{threadAt, countOf, classOf}
 use Rattle.machine.specs.Faults.{topFault, intFault, pushFault}
 use Rattle.machine.specs.Moves.{wentTo, wentOn, incMove, popMove, push0Move, loadMove, storeMove, ifMove}
 use Rattle.machine.proofs.Refusals.{either}
+use Rattle.soundness.specs.Balance.{Stands}
+use Rattle.soundness.specs.Invariant.{Inv}
 use Rattle.soundness.proofs.Held.{Fits, held}
 use Rattle.soundness.proofs.Kind.{int-value, int-inc}
 use Rattle.soundness.proofs.Weights.{goes-end, int-goes, plain-pair}
 use Rattle.soundness.proofs.Values.{pushed-is}
 use Rattle.soundness.proofs.Accepted.{Accepted}
-use Rattle.soundness.proofs.Stands.{Stands, variable-kind, entry-kind, pop-stands, push-stands, top-stands, store-stands, split-stands, fits-split, fits-plain}
-use Rattle.soundness.proofs.Invariant.{Inv}
+use Rattle.soundness.proofs.Stands.{variable-kind, entry-kind, pop-stands, push-stands, top-stands, store-stands, split-stands, fits-split, fits-plain}
 use Rattle.soundness.proofs.Moves.{Good, Fine}
 use Rattle.soundness.proofs.Goes.{v16, d16, at-here, has-room, goes-to}
 

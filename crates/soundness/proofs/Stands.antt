@@ -22,19 +22,14 @@ use Rattle.values.specs.declared.Value.{Value}
 use Rattle.values.specs.Values.{zeroSlot, isRef, objectOf}
 use Rattle.threads.specs.declared.Thread.{Thread}
 use Rattle.threads.specs.Threads.{fromTop, topOf, varOf, topped, pushed, popped, stored}
+use Rattle.soundness.specs.Balance.{Matches, names, Balanced, slotOf, valueIn, valueOf, Stands}
 use Rattle.soundness.proofs.Held.{Meets, Fits, compared}
-use Rattle.soundness.proofs.Kind.{Matches, takes-kind, ref-value}
-use Rattle.soundness.proofs.Weights.{names, same-weaker, kept-slot, gone-slot, fresh-slot, light-slot}
+use Rattle.soundness.proofs.Kind.{takes-kind, ref-value}
+use Rattle.soundness.proofs.Weights.{same-weaker, kept-slot, gone-slot, fresh-slot, light-slot}
 use Rattle.soundness.proofs.Weights as weights
-use Rattle.soundness.proofs.Balance.{Balanced, keep-all, keep-move, keep-split, keep-enter, keep-exit, dip-held}
-use Rattle.soundness.proofs.Slots.{slotOf, slot-var, slot-stack, slot-nostack, slot-popped, slot-pushed, slot-pushed-other, slot-stored, slot-stored-other, fits-weaker}
-use Rattle.soundness.proofs.Values.{Sixteen, valueIn, valueOf, value-var, value-entry, value-set, value-set-other, value-store, value-store-other, value-fill, pushed-is}
-
--- there are n objects, of the classes cls; the thread's counts are k
-pub record Stands (vars n : ℕ) (cls k : ℕ → ℕ) (x : Row) (t : Thread) : Type 0 where
-  pub sized : Sixteen t
-  pub depth-exact : t .depth ≡ x .depth
-  pub balanced : Balanced n cls (slotOf vars x) (valueOf t) k
+use Rattle.soundness.proofs.Balance.{keep-all, keep-move, keep-split, keep-enter, keep-exit, dip-held}
+use Rattle.soundness.proofs.Slots.{slot-var, slot-stack, slot-nostack, slot-popped, slot-pushed, slot-pushed-other, slot-stored, slot-stored-other, fits-weaker}
+use Rattle.soundness.proofs.Values.{value-var, value-entry, value-set, value-set-other, value-store, value-store-other, value-fill, pushed-is}
 
 -- a slot that keeps its value, and its entry
 same-slot : (n : ℕ) (cls : ℕ → ℕ) (e f : Entry) (v w : Value) → w ≡ v → f ≡ e → weights.Slot n cls e v f w

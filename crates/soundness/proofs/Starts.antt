@@ -32,14 +32,15 @@ use Rattle.state.specs.State.{threadAt, countOf, classOf, withThread, notLive, 
 use Rattle.machine.specs.Faults.{isObject, isArgument, argumentAt, argumentsOk, startFault}
 use Rattle.machine.specs.Waits.{startWait}
 use Rattle.machine.specs.Moves.{startedBy, startMove}
-use Rattle.soundness.proofs.Kind.{Matches, int-value, argument-kind, object-is}
+use Rattle.soundness.specs.Balance.{Matches, Stands}
+use Rattle.soundness.specs.Invariant.{Live, Asleep, Inv}
+use Rattle.soundness.proofs.Kind.{int-value, argument-kind, object-is}
 use Rattle.soundness.proofs.Held.{Fits, held}
 use Rattle.soundness.proofs.Weights.{goes-end}
 use Rattle.soundness.proofs.Values.{value-argument, value-zero}
 use Rattle.soundness.proofs.Accepted.{Accepted}
-use Rattle.soundness.proofs.Invariant.{Live, Asleep, Inv}
 use Rattle.soundness.proofs.Moves.{others, live-standing, thread-moves, Good, went, Fine}
-use Rattle.soundness.proofs.Stands.{Stands, entry-kind, pop-stands, fit-stands}
+use Rattle.soundness.proofs.Stands.{entry-kind, pop-stands, fit-stands}
 use Rattle.soundness.proofs.Goes.{arrives, v16, d16, at-here}
 use Rattle.soundness.proofs.Fresh.{born-live}
 

@@ -25,8 +25,8 @@ use Rattle.machine.specs.Waits.{waitOf}
 use Rattle.machine.specs.Moves.{moveOf}
 use Rattle.machine.specs.Machine.{runOf}
 use Rattle.machine.proofs.Refusals.{draws}
+use Rattle.soundness.specs.Invariant.{Inv}
 use Rattle.soundness.proofs.Accepted.{Accepted}
-use Rattle.soundness.proofs.Invariant.{Inv}
 use Rattle.soundness.proofs.Moves.{Good, given, Fine}
 use Rattle.soundness.proofs.Stack.{inc-fine, pop-fine, push0-fine, load-fine, store-fine, if-fine}
 use Rattle.soundness.proofs.Locks.{enter-fine, exit-fine, leaves-held}

@@ -3,32 +3,20 @@ use Prim.Native.Nat.{ℕ, _+_, _-_, _≤_, _<_}
 use mathlib.Core.Path.{_≡_}
 use mathlib.Core.Logic.{_≢_}
 use mathlib.Core.List.{List}
-use mathlib.Core.Bool.{cond}
 use native.Mathlib.Omega.{arith}
 use native.Mathlib.Decide.{decLt}
-use lib.Dec.{ltb}
 use lib.IntN.{pos}
 use lib.ListN.{length, getD, set, replicate, length-replicate, getD-replicate}
 use lib.Seq.{getD-set-same, getD-set-other}
 use borrow.Author.Tests.{lt-ltb, le-ltb}
 use Rattle.ground.specs.Bounded.{setBelow, fillFrom}
 use Rattle.ground.proofs.Writes.{set-below, set-above, fill-out}
-use Rattle.values.specs.declared.Value.{Value}
 use Rattle.values.specs.declared.Value.the-variants.{Int}
 use Rattle.values.specs.declared.Slot.{Slot}
 use Rattle.values.specs.Values.{zeroSlot}
 use Rattle.threads.specs.declared.Thread.{Thread}
 use Rattle.threads.specs.Threads.{fromTop, varOf, withStack, pushed}
-
-unfoldable pub valueIn : List Slot → List Slot → ℕ → Value
-valueIn vars stack s = cond (ltb s 16) (getD vars s zeroSlot .value) (getD stack (s - 16) zeroSlot .value)
-
-abbrev pub valueOf : Thread → ℕ → Value
-valueOf t s = valueIn (t .vars) (t .stack) s
-
-pub record Sixteen (t : Thread) : Type 0 where
-  pub vars : length (t .vars) ≡ 16
-  pub stack : length (t .stack) ≡ 16
+use Rattle.soundness.specs.Balance.{valueIn, valueOf}
 
 -- ---- reads
 pub value-var : (t : Thread) (v : ℕ) → v < 16 → valueOf t v ≡ varOf t v .value

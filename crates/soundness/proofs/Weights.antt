@@ -4,28 +4,15 @@ use mathlib.Core.Bool.{Bool, true, false, cond}
 use Prim.Native.Nat.{ℕ, _≤_}
 use native.Mathlib.Nat.{le-refl}
 use native.Mathlib.Omega.{arith}
-use lib.Dec.{eqb}
 use borrow.Author.Tests.{leb-true, ne-eqb}
 use Rattle.ground.proofs.Bools.{and-snd, never}
 use Rattle.entries.specs.Entries.{Entry, Int, Top, Ref, Nullable, Blank, Malformed, noEnd, dipOf, endOf, isInt, isReference, isNullable, isType}
 use Rattle.entries.specs.Fits.{mayGo, want}
 use Rattle.values.specs.declared.Value.{Value}
 use Rattle.values.specs.declared.Value.the-variants.{Int as num, Ref as obj, Null as null}
-use Rattle.soundness.proofs.Kind.{Matches, nope, takes-kind}
+use Rattle.soundness.specs.Balance.{Matches, names, dip, end}
+use Rattle.soundness.proofs.Kind.{nope, takes-kind}
 use Rattle.soundness.proofs.Held.{Meets}
-
--- the value refers to the object o
-abbrev pub names : ℕ → Value → Bool
-names o (num z) = false
-names o (obj r) = eqb r o
-names o null = false
-
--- what an entry with the value v weighs on the object o; ends keep their 64
-abbrev pub dip : ℕ → Entry → Value → ℕ
-dip o e v = cond (names o v) (dipOf e) 0
-
-abbrev pub end : ℕ → Entry → Value → ℕ
-end o e v = cond (names o v) (endOf e) noEnd
 
 pub cond-le : (b : Bool) (a c x : ℕ) → a ≤ c → cond b a x ≤ cond b c x
 cond-le true a c x h = h

@@ -1,2 +1,4 @@
 pub mod Sound
 pub mod Calls
+pub mod Balance
+pub mod Invariant
