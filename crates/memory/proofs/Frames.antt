@@ -18,7 +18,7 @@ use Rattle.threads.specs.declared.Thread.{Thread}
 use Rattle.threads.specs.Threads.{fromTop, topOf, withStack, withVars, withAt, topped, pushed, popped, stored, ended, started}
 use Rattle.memory.specs.Tab.{tab}
 use Rattle.memory.specs.Words.{slotOf, incWord}
-use Rattle.memory.specs.Frames.{slotAt, depthIn, threadIn, topOfStack, topPlace, topIn, wentIn, toppedIn, pushedIn, poppedIn, droppedIn, storedIn, branchedIn, clearedIn, endedIn, caughtIn, argumentIn, begunIn}
+use Rattle.memory.specs.Frames.{slotIn, depthIn, threadIn, topOfStack, topPlace, topIn, wentIn, toppedIn, pushedIn, poppedIn, droppedIn, storedIn, branchedIn, clearedIn, endedIn, caughtIn, argumentIn, begunIn}
 use Rattle.memory.proofs.Tab.{tab-at, tab-same, is-tab}
 use Rattle.memory.proofs.Loops.{cleared-length}
 use Rattle.memory.proofs.Meaning.{word-zero, int-low, inc-word, jumps-word}
@@ -241,9 +241,9 @@ module _ (p q : List ℕ) (z : length p ≡ 36) (m : depthIn q ≤ 16) (n c : �
           rw (le-ltb v n (omega arith))
           (word-zero ∙ sym (set-above (fromTop (threadIn q)) (replicate 16 zeroSlot) n v zeroSlot (omega arith) ∙ getD-replicate 16 v zeroSlot zeroSlot k))
 
-  vars-is : tab 16 (slotAt laid 0) ≡ setBelow n (fromTop (threadIn q)) (replicate 16 zeroSlot)
+  vars-is : tab 16 (slotIn laid 0) ≡ setBelow n (fromTop (threadIn q)) (replicate 16 zeroSlot)
   vars-is =
-      sym (is-tab 16 (slotAt laid 0) zeroSlot (setBelow n (fromTop (threadIn q)) (replicate 16 zeroSlot)) (set-length (fromTop (threadIn q)) (replicate 16 zeroSlot) n)
+      sym (is-tab 16 (slotIn laid 0) zeroSlot (setBelow n (fromTop (threadIn q)) (replicate 16 zeroSlot)) (set-length (fromTop (threadIn q)) (replicate 16 zeroSlot) n)
       (λ v k. sym (ap slotOf (there v k) ∙ argument-is v k)))
     where
       there : (v : ℕ) → v < 16 → at laid (0 + v) ≡ argumentIn q n v
@@ -258,7 +258,7 @@ module _ (p q : List ℕ) (z : length p ≡ 36) (m : depthIn q ≤ 16) (n c : �
   laid-thread =
       rw (
         vars-is,
-        tab-same 16 (slotAt p 16) (slotAt laid 16) (λ v k. ap slotOf (kept (16 + v) (omega arith))),
+        tab-same 16 (slotIn p 16) (slotIn laid 16) (λ v k. ap slotOf (kept (16 + v) (omega arith))),
         kept 32 (omega arith),
         kept 33 (omega arith),
         kept 34 (omega arith),

@@ -15,7 +15,7 @@ use Rattle.threads.specs.declared.Thread.{Thread}
 use Rattle.threads.specs.Threads.{withStack, withVars, withAt, fromTop, topOf, varOf}
 use Rattle.memory.specs.Tab.{tab}
 use Rattle.memory.specs.Words.{slotOf}
-use Rattle.memory.specs.Frames.{slotAt, depthIn, threadIn, topIn, underIn, varIn}
+use Rattle.memory.specs.Frames.{slotIn, depthIn, threadIn, topIn, underIn, varIn}
 use Rattle.memory.proofs.Tab.{tab-at, tab-same, tab-set}
 
 abbrev pub withClass : Thread → ℕ → Thread
@@ -26,26 +26,26 @@ withLive t x = record { live = not (eqb x 0); class = t .class; at = t .at; dept
 
 -- ---- sixteen words in a row
 -- a write elsewhere
-slots-other : (p : List ℕ) (from k w : ℕ) → ((v : ℕ) → v < 16 → (from + v) ≢ k) → tab 16 (slotAt (set p k w) from) ≡ tab 16 (slotAt p from)
-slots-other p from k w h = tab-same 16 (slotAt p from) (slotAt (set p k w) from) (λ v l. ap slotOf (getD-set-other p k (from + v) w 0 (h v l)))
+slots-other : (p : List ℕ) (from k w : ℕ) → ((v : ℕ) → v < 16 → (from + v) ≢ k) → tab 16 (slotIn (set p k w) from) ≡ tab 16 (slotIn p from)
+slots-other p from k w h = tab-same 16 (slotIn p from) (slotIn (set p k w) from) (λ v l. ap slotOf (getD-set-other p k (from + v) w 0 (h v l)))
 
 -- a write among them
-slots-own : (p : List ℕ) (from v w : ℕ) → v < 16 → from + v < length p → tab 16 (slotAt (set p (from + v) w) from) ≡ set (tab 16 (slotAt p from)) v (slotOf w)
+slots-own : (p : List ℕ) (from v w : ℕ) → v < 16 → from + v < length p → tab 16 (slotIn (set p (from + v) w) from) ≡ set (tab 16 (slotIn p from)) v (slotOf w)
 slots-own p from v w l k =
-    tab-set 16 (slotAt p from) (slotAt (set p (from + v) w) from) v (slotOf w) l (ap slotOf (getD-set-same p (from + v) w 0 k))
+    tab-set 16 (slotIn p from) (slotIn (set p (from + v) w) from) v (slotOf w) l (ap slotOf (getD-set-same p (from + v) w 0 k))
     (λ j m n. ap slotOf (getD-set-other p (from + v) (from + j) w 0 (λ q. n (omega arith))))
 
-vars-own : (p : List ℕ) (v w : ℕ) → v < 16 → v < length p → tab 16 (slotAt (set p v w) 0) ≡ set (tab 16 (slotAt p 0)) v (slotOf w)
+vars-own : (p : List ℕ) (v w : ℕ) → v < 16 → v < length p → tab 16 (slotIn (set p v w) 0) ≡ set (tab 16 (slotIn p 0)) v (slotOf w)
 vars-own p v w l k =
     let e : 0 + v ≡ v = omega arith in
-    subst (λ (u : ℕ). tab 16 (slotAt (set p u w) 0) ≡ set (tab 16 (slotAt p 0)) v (slotOf w)) e (slots-own p 0 v w l (omega arith))
+    subst (λ (u : ℕ). tab 16 (slotIn (set p u w) 0) ≡ set (tab 16 (slotIn p 0)) v (slotOf w)) e (slots-own p 0 v w l (omega arith))
 
 -- a place from 32 on is no value's
 module _ (p : List ℕ) (k w : ℕ) (l : 32 ≤ k) where
-  vars-stay : tab 16 (slotAt (set p k w) 0) ≡ tab 16 (slotAt p 0)
+  vars-stay : tab 16 (slotIn (set p k w) 0) ≡ tab 16 (slotIn p 0)
   vars-stay = slots-other p 0 k w (λ v m. omega arith)
 
-  stack-stays : tab 16 (slotAt (set p k w) 16) ≡ tab 16 (slotAt p 16)
+  stack-stays : tab 16 (slotIn (set p k w) 16) ≡ tab 16 (slotIn p 16)
   stack-stays = slots-other p 16 k w (λ v m. omega arith)
 
   elsewhere : (j : ℕ) → j ≢ k → at (set p k w) j ≡ at p j
@@ -124,12 +124,12 @@ module _ (p : List ℕ) (z : length p ≡ 36) where
 -- ---- reads
 module _ (p : List ℕ) where
   pub var-read : (v : ℕ) → v < 16 → varOf (threadIn p) v ≡ slotOf (varIn p v)
-  var-read v l = let e : 0 + v ≡ v % 16 = omega arith in tab-at 16 (slotAt p 0) v zeroSlot l ∙ (rw e)
+  var-read v l = let e : 0 + v ≡ v % 16 = omega arith in tab-at 16 (slotIn p 0) v zeroSlot l ∙ (rw e)
 
   pub entry-read : (j q : ℕ) → j < depthIn p → depthIn p ≤ 16 → q + j + 1 ≡ depthIn p → fromTop (threadIn p) j ≡ slotOf (at p (16 + q))
   entry-read j q l m e =
       let f : depthIn p - 1 - j ≡ q = omega arith in
-      tab-at 16 (slotAt p 16) (depthIn p - 1 - j) zeroSlot (omega arith) ∙ (rw f)
+      tab-at 16 (slotIn p 16) (depthIn p - 1 - j) zeroSlot (omega arith) ∙ (rw f)
 
   pub top-read : 1 ≤ depthIn p → depthIn p ≤ 16 → topOf (threadIn p) ≡ slotOf (topIn p)
   top-read l m = entry-read 0 ((at p 34 % 16 + 15) % 16) (omega arith) m (omega arith)

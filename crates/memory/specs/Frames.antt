@@ -15,8 +15,8 @@ use Rattle.memory.specs.Tab.{tab}
 use Rattle.memory.specs.Words.{slotOf}
 
 -- the value at place v of those that begin at `from`
-abbrev pub slotAt : List ℕ → ℕ → ℕ → Slot
-slotAt p from v = slotOf (at p (from + v))
+abbrev pub slotIn : List ℕ → ℕ → ℕ → Slot
+slotIn p from v = slotOf (at p (from + v))
 
 abbrev pub liveIn : List ℕ → Bool
 liveIn p = not (eqb (at p 35) 0)
@@ -38,8 +38,8 @@ threadIn p =
       class = classIn p;
       at = addr (addressIn p);
       depth = depthIn p;
-      vars = tab 16 (slotAt p 0);
-      stack = tab 16 (slotAt p 16);
+      vars = tab 16 (slotIn p 0);
+      stack = tab 16 (slotIn p 16);
     }
 
 -- the stack place of the top, and its place in the frame

@@ -107,10 +107,10 @@ pub fn pop(p: &mut [u64; 36], to: u16)
     p[33] = to as u64;
 }
 
-fn drop_all(p: &mut [u64; 36], n: u64)
+fn drop_all(p: &mut [u64; 36], n: u8)
     ensures { λ r. ⌜ now (p .exit) ≡ droppedIn n (now (p .entry)) ⌝ }
 {
-    let mut j: u64 = 0;
+    let mut j: u8 = 0;
     while j < n {
         pop_one(p);
         j += 1;
@@ -118,7 +118,7 @@ fn drop_all(p: &mut [u64; 36], n: u64)
 }
 
 // n entries gone from the top.
-pub fn drop(p: &mut [u64; 36], n: u64, to: u16)
+pub fn drop(p: &mut [u64; 36], n: u8, to: u16)
     ensures { λ r. ⌜ now (p .exit) ≡ wentIn (droppedIn n (now (p .entry))) to ⌝ }
 {
     drop_all(p, n);
@@ -152,10 +152,10 @@ pub fn branch(p: &mut [u64; 36], a: Addr, to: u16)
     pop(p, a.0);
 }
 
-fn clear(p: &mut [u64; 36], vars: u64)
+fn clear(p: &mut [u64; 36], vars: u8)
     ensures { λ r. ⌜ now (p .exit) ≡ clearedIn vars (now (p .entry)) ⌝ }
 {
-    let mut v: u64 = 0;
+    let mut v: u8 = 0;
     while v < vars {
         let k = (v % 16) as usize;
         p[k] = 0;
@@ -164,11 +164,11 @@ fn clear(p: &mut [u64; 36], vars: u64)
 }
 
 // The thread, which has so many variables, ends.
-pub fn end(p: &mut [u64; 36], vars: u64)
+pub fn end(p: &mut [u64; 36], vars: u8)
     ensures { λ r. ⌜ now (p .exit) ≡ endedIn (now (p .entry)) vars ⌝ }
 {
     clear(p, vars);
-    let n = p[34] % 32;
+    let n = (p[34] % 32) as u8;
     drop_all(p, n);
     p[32] = 0;
     p[33] = 0;
@@ -177,14 +177,14 @@ pub fn end(p: &mut [u64; 36], vars: u64)
 }
 
 // w is thrown: the handler finds it alone on its stack; with none, the thread ends, and 2 is answered.
-pub fn throw(p: &mut [u64; 36], vars: u64, h: Addr, w: u64) -> u8
+pub fn throw(p: &mut [u64; 36], vars: u8, h: Addr, w: u64) -> u8
     ensures { λ r. ⌜ (r ≡ cond (eqb (h .0) 0) 2 0) × (now (p .exit) ≡ thrownIn (now (p .entry)) vars (h .0) w) ⌝ }
 {
     if h.0 == 0 {
         end(p, vars);
         return 2;
     }
-    let n = p[34] % 32;
+    let n = (p[34] % 32) as u8;
     drop_all(p, n);
     push(p, w, h.0);
     0

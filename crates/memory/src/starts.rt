@@ -5,11 +5,11 @@ ghost use Rattle.memory.specs.Tab.{tab};
 ghost use Rattle.memory.specs.Frames.{argumentIn, begunIn};
 
 // Variable v of a thread that is started with the top n entries.
-fn argument(p: &[u64; 36], n: u64, v: usize) -> u64
+fn argument(p: &[u64; 36], n: u8, v: usize) -> u64
     requires { ⌜ v < 16 ⌝ }
     ensures { λ r. ⌜ r ≡ argumentIn (now (p .entry)) n v ⌝ }
 {
-    if n <= v as u64 {
+    if n as usize <= v {
         return 0;
     }
     let k = 16 + ((p[34] % 16) as usize + 31 - v) % 16;
@@ -17,7 +17,7 @@ fn argument(p: &[u64; 36], n: u64, v: usize) -> u64
 }
 
 // The top n entries, the top first, and 0.
-pub fn arguments(p: &[u64; 36], n: u64) -> [u64; 16]
+pub fn arguments(p: &[u64; 36], n: u8) -> [u64; 16]
     ensures { λ r. ⌜ r ≡ tab 16 (argumentIn (now (p .entry)) n) ⌝ }
 {
     let mut next = [0u64; 16];

@@ -1,9 +1,9 @@
 // What a word stands for, and what a whole thread does.
 ghost use mathlib.Core.Path.{_≡_};
-ghost use Prim.Native.Nat.{_+_, _≤_};
+ghost use Prim.Native.Nat.{_≤_};
 ghost use Rattle.memory.specs.Tab.{tab};
 ghost use Rattle.memory.specs.Words.{slotOf, objectIn};
-ghost use Rattle.memory.specs.Frames.{slotAt, threadIn};
+ghost use Rattle.memory.specs.Frames.{slotIn, threadIn};
 use instructions::Addr;
 use threads::Thread;
 use values::Slot;
@@ -34,7 +34,7 @@ pub fn slot_of(w: u64) -> Slot
 // Sixteen places.
 fn slots(p: &[u64; 36], from: usize) -> [Slot; 16]
     requires { ⌜ from ≤ 16 ⌝ }
-    ensures { λ r. ⌜ r ≡ tab 16 (slotAt (now (p .entry)) from) ⌝ }
+    ensures { λ r. ⌜ r ≡ tab 16 (slotIn (now (p .entry)) from) ⌝ }
 {
     let z = values::zero_slot();
     let mut next = [z; 16];

@@ -2,7 +2,7 @@
 use mathlib.Core.List.{List, []}
 use mathlib.Core.Path.{_≡_, refl, sym, ap, subst, _∙_}
 use mathlib.Core.Bool.{Bool, true, false, cond, not}
-use Prim.Native.Nat.{ℕ, _+_, _*_, _-_, _<_, _≤_}
+use Prim.Native.Nat.{ℕ, _+_, _*_, _<_, _≤_}
 use lib.Dec.{ltb, leb, eqb}
 use lib.ListN.{set}
 use lib.Seq.{set-getD}
@@ -34,7 +34,7 @@ use Rattle.memory.specs.Frames.{addressIn, threadIn, varIn, wentIn, thrownIn}
 use Rattle.memory.proofs.Meaning.{word-object, ref-object, null-high}
 use Rattle.memory.proofs.Writes.{var-read}
 use Rattle.memory.proofs.Frames.{Is, went-is}
-use Rattle.runner.specs.Memory.{Memory, memory, frameOf, stateOf}
+use Rattle.runner.specs.Memory.{Memory, memory, frameOf, stateFrom}
 use Rattle.runner.specs.Locks.{Locked, locked, heldByOther, countedIn, enteredIn, leftIn}
 use Rattle.runner.specs.Poised.{Poised, Turned}
 use Rattle.runner.proofs.Stores.{threads-set, sized-set}
@@ -84,8 +84,8 @@ module _ (b : List ℕ) (table : List (List ℕ)) (m : Memory) (i : ℕ) (z : Po
         (λ j l n k. z .running .inv .whole .one-holder i j (objectIn (Word m i v)) (z .thread-8) l object-32 (λ q. n (sym q)) k)
 
     -- the count becomes n
-    counted-turned : (x : Instruction) → X b table m i z ≡ x → waitOf (stateOf m) i (Here m i) x ≡ 0 → (n to : ℕ) → to ≡ addressIn (F b table m i z) + 1
-        → moveOf (programOf b) (stateOf m) i (Here m i) (M b table m i z) fails x ≡ counted (stateOf m) i (Here m i) (objectIn (Word m i v)) n
+    counted-turned : (x : Instruction) → X b table m i z ≡ x → waitOf (stateFrom m) i (Here m i) x ≡ 0 → (n to : ℕ) → to ≡ addressIn (F b table m i z) + 1
+        → moveOf (programOf b) (stateFrom m) i (Here m i) (M b table m i z) fails x ≡ counted (stateFrom m) i (Here m i) (objectIn (Word m i v)) n
         → Turned b m
         (memory (set (m .frames) i (wentIn (F b table m i z) to)) (set (m .counts) (i * 32 + objectIn (Word m i v)) n) (set (m .held) i (marked (at (m .held) i) (objectIn (Word m i v)) n)) (m .objects) (m .classes) (m .fields))
         0 i fails
@@ -102,7 +102,7 @@ module _ (b : List ℕ) (table : List (List ℕ)) (m : Memory) (i : ℕ) (z : Po
             counts = set (m .counts) (i * 32 + objectIn (Word m i v)) n;
             objects = m .objects;
             classes = m .classes;
-            fields = stateOf m .fields;
+            fields = stateFrom m .fields;
             held = set (m .held) i (marked (at (m .held) i) (objectIn (Word m i v)) n);
           };
         })
@@ -155,9 +155,9 @@ module _ (b : List ℕ) (table : List (List ℕ)) (m : Memory) (i : ℕ) (z : Po
           threw b table m i z fails (Enter v h) q (rw n) h 4294967296 (listed b table m i z fails (Enter v h) q .1) (thrown n) _ _ vars ev refl refl
         where
           thrown : isNull (varOf (Here m i) (v .0)) ≡ true
-              → cond (isNull (varOf (Here m i) (v .0))) (failMove (stateOf m) i (Here m i) (M b table m i z .vars) h) (counted (stateOf m) i (Here m i) (lockOf (Here m i) v) (countOf (m .counts) i (lockOf (Here m i) v) + 1))
-              ≡ throwMove (stateOf m) i (Here m i) (M b table m i z .vars) h (slotOf 4294967296)
-          thrown n = rw n (ap (throwMove (stateOf m) i (Here m i) (M b table m i z .vars) h) (sym (word-object 0 (omega arith))))
+              → cond (isNull (varOf (Here m i) (v .0))) (failMove (stateFrom m) i (Here m i) (M b table m i z .vars) h) (counted (stateFrom m) i (Here m i) (lockOf (Here m i) v) (countOf (m .counts) i (lockOf (Here m i) v) + 1))
+              ≡ throwMove (stateFrom m) i (Here m i) (M b table m i z .vars) h (slotOf 4294967296)
+          thrown n = rw n (ap (throwMove (stateFrom m) i (Here m i) (M b table m i z .vars) h) (sym (word-object 0 (omega arith))))
 
       free-is : (f : leb 4294967552 (Word m i v) ≡ false) (t : Bool) → heldByOther (m .held) i (objectIn (Word m i v)) ≡ t → othersFree (m .counts) i (lockOf (Here m i) v) ≡ not t
       free-is f t g =
@@ -169,7 +169,7 @@ module _ (b : List ℕ) (table : List (List ℕ)) (m : Memory) (i : ℕ) (z : Po
           turn true k = rw (← k)
           turn false k = rw (← k)
 
-      wait-is : (f : leb 4294967552 (Word m i v) ≡ false) (y : Bool) → othersFree (m .counts) i (lockOf (Here m i) v) ≡ y → waitOf (stateOf m) i (Here m i) (Enter v h) ≡ test y 3 0
+      wait-is : (f : leb 4294967552 (Word m i v) ≡ false) (y : Bool) → othersFree (m .counts) i (lockOf (Here m i) v) ≡ y → waitOf (stateFrom m) i (Here m i) (Enter v h) ≡ test y 3 0
       wait-is f y g = rw (not-null f, g)
 
       other : leb 4294967552 (Word m i v) ≡ false → heldByOther (m .held) i (objectIn (Word m i v)) ≡ true → Q (locked 3 (F b table m i z) (m .counts) (m .held))

@@ -41,15 +41,15 @@ use Rattle.memory.specs.Frames.{threadIn, begunIn}
 use Rattle.memory.proofs.Tab.{tab-at}
 use Rattle.runner.specs.Run.{stepIn, stepsIn, taken, refusedBy, ranOf}
 use Rattle.runner.specs.Table.{rowOf}
-use Rattle.runner.specs.Memory.{Memory, memory, frameOf, threadAt, slotAt, stateOf, Sized}
+use Rattle.runner.specs.Memory.{Memory, memory, frameOf, threadFrom, slotFrom, stateFrom, Sized}
 use Rattle.runner.specs.Objects.{Heap, heap, fieldsIn, addedIn}
 use Rattle.runner.specs.Poised.{Running, Turned}
 use Rattle.runner.proofs.Stores.{threads-set, sized-set, fields-made, sized-made, object-made}
 
 pub record Halfway (b xs : List ℕ) (table : List (List ℕ)) (m : Memory) (steps n : ℕ) : Type 0 where
   pub running : Running b table m
-  pub last-state : run b (stateOf m) (stepsIn (drop n xs)) ≡ reached b (stepsIn xs)
-  pub number : steps + taken b (stateOf m) (stepsIn (drop n xs)) ≡ taken b (freshOf b .state) (stepsIn xs)
+  pub last-state : run b (stateFrom m) (stepsIn (drop n xs)) ≡ reached b (stepsIn xs)
+  pub number : steps + taken b (stateFrom m) (stepsIn (drop n xs)) ≡ taken b (freshOf b .state) (stepsIn xs)
   pub bound : steps ≤ n
 
 -- ---- the fresh machine
@@ -59,11 +59,11 @@ none = replicate 8 (replicate 36 0)
 abbrev born : List ℕ
 born = begunIn (replicate 36 0) (replicate 16 0) 0
 
-empty-threads : tab 8 (threadAt none) ≡ emptyState .threads
+empty-threads : tab 8 (threadFrom none) ≡ emptyState .threads
 unfolding tab slotOf
 empty-threads = refl
 
-empty-fields : tab 128 (slotAt (replicate 128 0)) ≡ emptyState .fields
+empty-fields : tab 128 (slotFrom (replicate 128 0)) ≡ emptyState .fields
 unfolding tab slotOf
 empty-fields = refl
 
@@ -93,7 +93,7 @@ module _ (b : List ℕ) (e : verdictOf b .number ≡ 0) where
       sized-set none 0 born refl (omega arith) firsts
       (sized-made b (exception b) 0 (replicate 128 0) refl (omega arith) none (record { frames-8 = refl; frame-36 = frame-short; fields-128 = refl })) born-36
 
-  fresh-memory : stateOf start ≡ freshState (programOf b)
+  fresh-memory : stateFrom start ≡ freshState (programOf b)
   unfolding programOf
   fresh-memory =
       ap (λ (ts : List Thread). record {
@@ -101,7 +101,7 @@ module _ (b : List ℕ) (e : verdictOf b .number ≡ 0) where
         counts = replicate 256 0;
         objects = 1;
         classes = set (replicate 32 0) 0 (exception b);
-        fields = tab 128 (slotAt firsts);
+        fields = tab 128 (slotFrom firsts);
         held = replicate 8 0;
       })
       (threads-set none 0 born refl (omega arith) mainThread born-main ∙ ap (λ (ts : List Thread). set ts 0 mainThread) empty-threads)
@@ -134,7 +134,7 @@ module _ (b : List ℕ) (e : verdictOf b .number ≡ 0) where
   fresh-begins : (xs : List ℕ) (table : List (List ℕ)) → table ≡ tab 8 (rowOf b) → Halfway b xs table start 0 0
   unfolding programOf
   fresh-begins xs table t =
-      let q : stateOf start ≡ freshOf b .state = fresh-memory ∙ sym fresh-state in
+      let q : stateFrom start ≡ freshOf b .state = fresh-memory ∙ sym fresh-state in
       record {
         running = record {
           accepted = e;
@@ -180,25 +180,25 @@ counted-one n = go (leb n 2)
 
 module _ (b xs : List ℕ) (table : List (List ℕ)) (m : Memory) (steps n : ℕ) (w : Halfway b xs table m steps n) (l : n < length xs) (m′ : Memory) (x steps′ : ℕ)
     (t : Turned b m m′ x (at xs n % 8) (leb 128 (at xs n))) (q : steps′ ≡ steps + cond (leb x 2) 1 0) where
-  state-is : stateOf m′ ≡ after b (stateOf m) (stepIn (at xs n))
+  state-is : stateFrom m′ ≡ after b (stateFrom m) (stepIn (at xs n))
   state-is = ap (λ (r : Stepped). r .state) (t .step)
 
-  answer-is : x ≡ answer b (stateOf m) (stepIn (at xs n))
+  answer-is : x ≡ answer b (stateFrom m) (stepIn (at xs n))
   answer-is = ap (λ (r : Stepped). r .answer) (t .step)
 
-  rest-state : run b (stateOf m) (stepsIn (drop n xs)) ≡ run b (after b (stateOf m) (stepIn (at xs n))) (stepsIn (drop (n + 1) xs))
+  rest-state : run b (stateFrom m) (stepsIn (drop n xs)) ≡ run b (after b (stateFrom m) (stepIn (at xs n))) (stepsIn (drop (n + 1) xs))
   unfolding run
   rest-state = rw (steps-next xs n l)
 
-  rest-taken : taken b (stateOf m) (stepsIn (drop n xs))
-      ≡ cond (leb (answer b (stateOf m) (stepIn (at xs n))) 2) 1 0 + taken b (after b (stateOf m) (stepIn (at xs n))) (stepsIn (drop (n + 1) xs))
+  rest-taken : taken b (stateFrom m) (stepsIn (drop n xs))
+      ≡ cond (leb (answer b (stateFrom m) (stepIn (at xs n))) 2) 1 0 + taken b (after b (stateFrom m) (stepIn (at xs n))) (stepsIn (drop (n + 1) xs))
   unfolding taken
   rest-taken = rw (steps-next xs n l)
 
   -- the same, of the state and the answer that the turn gave
-  rest-number : taken b (stateOf m) (stepsIn (drop n xs)) ≡ cond (leb x 2) 1 0 + taken b (stateOf m′) (stepsIn (drop (n + 1) xs))
+  rest-number : taken b (stateFrom m) (stepsIn (drop n xs)) ≡ cond (leb x 2) 1 0 + taken b (stateFrom m′) (stepsIn (drop (n + 1) xs))
   rest-number =
-      rest-taken ∙ ap (λ (y : ℕ). cond (leb y 2) 1 0 + taken b (after b (stateOf m) (stepIn (at xs n))) (stepsIn (drop (n + 1) xs))) (sym answer-is)
+      rest-taken ∙ ap (λ (y : ℕ). cond (leb y 2) 1 0 + taken b (after b (stateFrom m) (stepIn (at xs n))) (stepsIn (drop (n + 1) xs))) (sym answer-is)
       ∙ ap (λ (s : State). cond (leb x 2) 1 0 + taken b s (stepsIn (drop (n + 1) xs))) (sym state-is)
 
   pub goes-on : Halfway b xs table m′ steps′ (n + 1)
@@ -208,7 +208,7 @@ module _ (b xs : List ℕ) (table : List (List ℕ)) (m : Memory) (steps n : ℕ
           accepted = w .running .accepted;
           tabled = w .running .tabled;
           sized = t .sized;
-          inv = subst (λ (s : State). Inv (typedOf b) s) (sym state-is) (inv-after b (w .running .accepted) (stateOf m) (w .running .inv) (stepIn (at xs n)));
+          inv = subst (λ (s : State). Inv (typedOf b) s) (sym state-is) (inv-after b (w .running .accepted) (stateFrom m) (w .running .inv) (stepIn (at xs n)));
         };
         last-state = ap (λ (s : State). run b s (stepsIn (drop (n + 1) xs))) state-is ∙ sym rest-state ∙ w .last-state;
         number = omega (arith, w .number, rest-number);
@@ -217,7 +217,7 @@ module _ (b xs : List ℕ) (table : List (List ℕ)) (m : Memory) (steps n : ℕ
 
 -- ---- the end
 pub arrives : (b xs : List ℕ) (table : List (List ℕ)) (m : Memory) (steps n : ℕ) → Halfway b xs table m steps n → n ≡ length xs
-    → (stateOf m ≡ reached b (stepsIn xs)) × (steps ≡ taken b (freshOf b .state) (stepsIn xs))
+    → (stateFrom m ≡ reached b (stepsIn xs)) × (steps ≡ taken b (freshOf b .state) (stepsIn xs))
 unfolding run taken stepsIn
 arrives b xs table m steps n w e =
     let d : drop n xs ≡ [] = rw e (drop-length xs) in

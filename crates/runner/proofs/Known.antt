@@ -41,7 +41,7 @@ use Rattle.soundness.proofs.Steps.{no-fault}
 use Rattle.memory.specs.Frames.{liveIn, classIn, addressIn, depthIn, threadIn}
 use Rattle.memory.proofs.Tab.{tab-at}
 use Rattle.runner.specs.Table.{rowOf}
-use Rattle.runner.specs.Memory.{Memory, frameOf, threadAt, stateOf}
+use Rattle.runner.specs.Memory.{Memory, frameOf, threadFrom, stateFrom}
 use Rattle.runner.specs.Poised.{Running, Poised, Turned}
 use Rattle.runner.proofs.Places.{code-within, instruction-there}
 
@@ -67,11 +67,11 @@ module _ (b : List ℕ) (table : List (List ℕ)) (m : Memory) (u : Running b ta
   pub accepts : Accepted (typedOf b)
   accepts = judged b (u .accepted)
 
-  belongs-here : stateOk (programOf b) (stateOf m) ≡ true
-  belongs-here = state-ok (typedOf b) accepts (stateOf m) (u .inv)
+  belongs-here : stateOk (programOf b) (stateFrom m) ≡ true
+  belongs-here = state-ok (typedOf b) accepts (stateFrom m) (u .inv)
 
-  pub thread-is : (i : ℕ) → i < 8 → threadOf (stateOf m) i ≡ threadIn (frameOf (m .frames) i)
-  thread-is i l = tab-at 8 (threadAt (m .frames)) i idle l
+  pub thread-is : (i : ℕ) → i < 8 → threadOf (stateFrom m) i ≡ threadIn (frameOf (m .frames) i)
+  thread-is i l = tab-at 8 (threadFrom (m .frames)) i idle l
 
   pub row-is : (c : ℕ) → c < 8 → getD table c [] ≡ rowOf b c
   row-is c l = rw (u .tabled) (tab-at 8 (rowOf b) c [] l)
@@ -82,7 +82,7 @@ module _ (b : List ℕ) (table : List (List ℕ)) (m : Memory) (u : Running b ta
   rests i l fails e =
       record { sized = u .sized; step = sym (went-on _ _ can-read ∙ went-on _ _ belongs-here ∙ stopped _ _ sleeping) }
     where
-      sleeping : (ltb i 8 && threadOf (stateOf m) i .live) ≡ false
+      sleeping : (ltb i 8 && threadOf (stateFrom m) i .live) ≡ false
       sleeping = rw (lt-ltb i 8 l, thread-is i l, e)
 
 module _ (b : List ℕ) (table : List (List ℕ)) (m : Memory) (i : ℕ) (z : Poised b table m i) where
@@ -90,7 +90,7 @@ module _ (b : List ℕ) (table : List (List ℕ)) (m : Memory) (i : ℕ) (z : Po
   P = programOf b
 
   abbrev pub S : State
-  S = stateOf m
+  S = stateFrom m
 
   abbrev pub F : List ℕ
   F = frameOf (m .frames) i
@@ -204,6 +204,9 @@ module _ (b : List ℕ) (table : List (List ℕ)) (m : Memory) (i : ℕ) (z : Po
 
     pub next-small : a + 1 < 65536
     next-small = omega (arith, address-256)
+
+    pub vars-small : at (getD table q []) 1 < 256
+    vars-small = omega (arith, vars-are q e, few-vars)
 
     pub address-some : 1 ≤ a
     address-some = omega (arith, address-first)

@@ -29,7 +29,7 @@ use Rattle.memory.proofs.Tab.{tab-at}
 use Rattle.memory.proofs.Meaning.{word-object, ref-object, null-high}
 use Rattle.memory.proofs.Writes.{top-read, under-read}
 use Rattle.memory.proofs.Frames.{Is, went-is, topped-is, pushed-is, dropped-is}
-use Rattle.runner.specs.Memory.{Memory, memory, threadAt, slotAt, stateOf, Sized}
+use Rattle.runner.specs.Memory.{Memory, memory, threadFrom, slotFrom, stateFrom, Sized}
 use Rattle.runner.specs.Objects.{Made, heap, made, fieldsIn, addedIn, newIn}
 use Rattle.runner.specs.Fields.{Fielded, fielded, gotIn, putIn}
 use Rattle.runner.specs.Poised.{Poised, Turned}
@@ -46,7 +46,7 @@ module _ (b : List ℕ) (table : List (List ℕ)) (m : Memory) (i : ℕ) (z : Po
   pub resized : (p : List ℕ) (fields : List ℕ) → Sized (m .frames) fields → (u : Thread) → Is p u → Sized (set (m .frames) i p) fields
   resized p fields s u h = sized-set (m .frames) i p (z .running .sized .frames-8) (z .thread-8) fields s (h .sized)
 
-  pub rethreaded : (p : List ℕ) (u : Thread) → Is p u → tab 8 (threadAt (set (m .frames) i p)) ≡ set (tab 8 (threadAt (m .frames))) i u
+  pub rethreaded : (p : List ℕ) (u : Thread) → Is p u → tab 8 (threadFrom (set (m .frames) i p)) ≡ set (tab 8 (threadFrom (m .frames))) i u
   rethreaded p u h = threads-set (m .frames) i p (z .running .sized .frames-8) (z .thread-8) u (h .thread)
 
 -- ---- new
@@ -54,7 +54,7 @@ module _ (b : List ℕ) (table : List (List ℕ)) (m : Memory) (i : ℕ) (z : Po
   pub new-known : c < 8
   new-known = omega (arith, listed b table m i z fails (New c h) q .0, formed b table m i z .few-classes)
 
-  first-are : (o : ℕ) → o < 32 → tab 128 (slotAt (fieldsIn (m .fields) o (getD table c []))) ≡ fieldsWith (tab 128 (slotAt (m .fields))) o (firstFields (programOf b .method c))
+  first-are : (o : ℕ) → o < 32 → tab 128 (slotFrom (fieldsIn (m .fields) o (getD table c []))) ≡ fieldsWith (tab 128 (slotFrom (m .fields))) o (firstFields (programOf b .method c))
   unfolding programOf
   first-are o l = rw (row-is b table m (z .running) c new-known) (fields-made b c o (m .fields) (z .running .sized .fields-128) l)
 
@@ -64,12 +64,12 @@ module _ (b : List ℕ) (table : List (List ℕ)) (m : Memory) (i : ℕ) (z : Po
   abbrev Large : Bool
   Large = fails || leb 32 (m .objects)
 
-  new-throws : Large ≡ true → cond Large (failMove (stateOf m) i (Here m i) (M b table m i z .vars) h) (makeMove (programOf b) (stateOf m) i (Here m i) c)
-      ≡ throwMove (stateOf m) i (Here m i) (M b table m i z .vars) h (slotOf 4294967296)
-  new-throws f = rw f (ap (throwMove (stateOf m) i (Here m i) (M b table m i z .vars) h) (sym (word-object 0 (omega arith))))
+  new-throws : Large ≡ true → cond Large (failMove (stateFrom m) i (Here m i) (M b table m i z .vars) h) (makeMove (programOf b) (stateFrom m) i (Here m i) c)
+      ≡ throwMove (stateFrom m) i (Here m i) (M b table m i z .vars) h (slotOf 4294967296)
+  new-throws f = rw f (ap (throwMove (stateFrom m) i (Here m i) (M b table m i z .vars) h) (sym (word-object 0 (omega arith))))
 
-  new-makes : Large ≡ false → cond Large (failMove (stateOf m) i (Here m i) (M b table m i z .vars) h) (makeMove (programOf b) (stateOf m) i (Here m i) c)
-      ≡ makeMove (programOf b) (stateOf m) i (Here m i) c
+  new-makes : Large ≡ false → cond Large (failMove (stateFrom m) i (Here m i) (M b table m i z .vars) h) (makeMove (programOf b) (stateFrom m) i (Here m i) c)
+      ≡ makeMove (programOf b) (stateFrom m) i (Here m i) c
   new-makes f = rw f
 
   new-room : Large ≡ false → depthIn (F b table m i z) < 16
@@ -96,7 +96,7 @@ module _ (b : List ℕ) (table : List (List ℕ)) (m : Memory) (i : ℕ) (z : Po
           let k = on b table m i z _ _ to t (pushed-is (F b table m i z) (frame-36 b table m i z) (depth-16 b table m i z) (4294967296 + m .objects) (new-room f)) in
           goes b table m i z fails (New c h) q refl _ 0 (resized b table m i z _ _ (first-sized (m .objects) l) _ k)
           (new-makes f
-          ∙ ap (λ (s : State). wentOn s i (Here m i .at) (pushed (Here m i) (refSlot (m .objects)))) (sym (object-made (stateOf m) c (firstFields (programOf b .method c)) l))
+          ∙ ap (λ (s : State). wentOn s i (Here m i .at) (pushed (Here m i) (refSlot (m .objects)))) (sym (object-made (stateFrom m) c (firstFields (programOf b .method c)) l))
           ∙ ap (λ (x : Slot). made-state (pushed (Here m i) x)) (sym (word-object (m .objects) (omega arith)))
           ∙ ap (λ (ts : List Thread). record {
             answer = 0;
@@ -105,7 +105,7 @@ module _ (b : List ℕ) (table : List (List ℕ)) (m : Memory) (i : ℕ) (z : Po
               counts = m .counts;
               objects = m .objects + 1;
               classes = set (m .classes) (m .objects) c;
-              fields = fieldsWith (tab 128 (slotAt (m .fields))) (m .objects) (firstFields (programOf b .method c));
+              fields = fieldsWith (tab 128 (slotFrom (m .fields))) (m .objects) (firstFields (programOf b .method c));
               held = m .held;
             };
           })
@@ -113,7 +113,7 @@ module _ (b : List ℕ) (table : List (List ℕ)) (m : Memory) (i : ℕ) (z : Po
           ∙ ap (λ (fs : List Slot). record {
             answer = 0;
             state = record {
-              threads = tab 8 (threadAt (set (m .frames) i (wentIn (pushedIn (F b table m i z) (4294967296 + m .objects)) to)));
+              threads = tab 8 (threadFrom (set (m .frames) i (wentIn (pushedIn (F b table m i z) (4294967296 + m .objects)) to)));
               counts = m .counts;
               objects = m .objects + 1;
               classes = set (m .classes) (m .objects) c;
@@ -127,11 +127,11 @@ module _ (b : List ℕ) (table : List (List ℕ)) (m : Memory) (i : ℕ) (z : Po
           made-state u =
               wentOn
               (record {
-                threads = tab 8 (threadAt (m .frames));
+                threads = tab 8 (threadFrom (m .frames));
                 counts = m .counts;
                 objects = m .objects + 1;
                 classes = set (m .classes) (m .objects) c;
-                fields = fieldsWith (tab 128 (slotAt (m .fields))) (m .objects) (firstFields (programOf b .method c));
+                fields = fieldsWith (tab 128 (slotFrom (m .fields))) (m .objects) (firstFields (programOf b .method c));
                 held = m .held;
               })
               i (Here m i .at) u
@@ -176,12 +176,12 @@ module _ (b : List ℕ) (table : List (List ℕ)) (m : Memory) (i : ℕ) (z : Po
     get-known =
         omega (arith, get-field, owner-32 b table m i z (topOf (Here m i)) (topIn (F b table m i z)) get-word get-refers (entry-refers b table m i z 0 (omega (arith, get-deep))))
 
-    get-moves : moveOf (programOf b) (stateOf m) i (Here m i) (M b table m i z) fails (Get c f h)
-        ≡ wentOn (stateOf m) i (Here m i .at) (topped (Here m i) (slotOf (at (m .fields) (objectIn (topIn (F b table m i z)) * 4 + f))))
+    get-moves : moveOf (programOf b) (stateFrom m) i (Here m i) (M b table m i z) fails (Get c f h)
+        ≡ wentOn (stateFrom m) i (Here m i .at) (topped (Here m i) (slotOf (at (m .fields) (objectIn (topIn (F b table m i z)) * 4 + f))))
     get-moves =
         let n : isNull (topOf (Here m i)) ≡ false = ap isNull get-word ∙ null-high (topIn (F b table m i z)) ∙ g in
         rw (n, ← owner-object b table m i z (topOf (Here m i)) (topIn (F b table m i z)) get-word get-refers)
-        (ap (λ (x : Slot). wentOn (stateOf m) i (Here m i .at) (topped (Here m i) x)) (tab-at 128 (slotAt (m .fields)) (objectIn (topIn (F b table m i z)) * 4 + f) zeroSlot get-known))
+        (ap (λ (x : Slot). wentOn (stateFrom m) i (Here m i .at) (topped (Here m i) x)) (tab-at 128 (slotFrom (m .fields)) (objectIn (topIn (F b table m i z)) * 4 + f) zeroSlot get-known))
 
   pub get-turned : (r : ℕ) (p′ f′ : List ℕ) (vars to : ℕ) → vars ≡ M b table m i z .vars → to ≡ addressIn (F b table m i z) + 1
       → fielded r p′ f′ ≡ gotIn (F b table m i z) (m .fields) vars f (h .0) to
@@ -196,8 +196,8 @@ module _ (b : List ℕ) (table : List (List ℕ)) (m : Memory) (i : ℕ) (z : Po
           → Turned b m (framed m i (thrownIn (F b table m i z) vars (h .0) 4294967296)) (cond (eqb (h .0) 0) 2 0) i fails
       throws g =
           let n : isNull (topOf (Here m i)) ≡ true = ap isNull get-word ∙ null-high (topIn (F b table m i z)) ∙ g in
-          let k : moveOf (programOf b) (stateOf m) i (Here m i) (M b table m i z) fails (Get c f h) ≡ throwMove (stateOf m) i (Here m i) (M b table m i z .vars) h (slotOf 4294967296) =
-          rw n (ap (throwMove (stateOf m) i (Here m i) (M b table m i z .vars) h) (sym (word-object 0 (omega arith)))) in
+          let k : moveOf (programOf b) (stateFrom m) i (Here m i) (M b table m i z) fails (Get c f h) ≡ throwMove (stateFrom m) i (Here m i) (M b table m i z .vars) h (slotOf 4294967296) =
+          rw n (ap (throwMove (stateFrom m) i (Here m i) (M b table m i z .vars) h) (sym (word-object 0 (omega arith)))) in
           threw b table m i z fails (Get c f h) q refl h 4294967296 (listed b table m i z fails (Get c f h) q .2) k _ _ vars ev refl refl
 
       reads : leb 4294967552 (topIn (F b table m i z)) ≡ false
@@ -234,14 +234,14 @@ module _ (b : List ℕ) (table : List (List ℕ)) (m : Memory) (i : ℕ) (z : Po
     put-known =
         omega (arith, put-field, owner-32 b table m i z (fromTop (Here m i) 1) (underIn (F b table m i z)) put-word put-refers (entry-refers b table m i z 1 (omega (arith, put-deep))))
 
-    put-moves : moveOf (programOf b) (stateOf m) i (Here m i) (M b table m i z) fails (Put c f h)
+    put-moves : moveOf (programOf b) (stateFrom m) i (Here m i) (M b table m i z) fails (Put c f h)
         ≡ wentOn
         (record {
-          threads = tab 8 (threadAt (m .frames));
+          threads = tab 8 (threadFrom (m .frames));
           counts = m .counts;
           objects = m .objects;
           classes = m .classes;
-          fields = set (tab 128 (slotAt (m .fields))) (objectIn (underIn (F b table m i z)) * 4 + f) (slotOf (topIn (F b table m i z)));
+          fields = set (tab 128 (slotFrom (m .fields))) (objectIn (underIn (F b table m i z)) * 4 + f) (slotOf (topIn (F b table m i z)));
           held = m .held;
         })
         i (Here m i .at) (popped 2 (Here m i))
@@ -262,8 +262,8 @@ module _ (b : List ℕ) (table : List (List ℕ)) (m : Memory) (i : ℕ) (z : Po
           → Turned b m (framed m i (thrownIn (F b table m i z) vars (h .0) 4294967296)) (cond (eqb (h .0) 0) 2 0) i fails
       throws g =
           let n : isNull (fromTop (Here m i) 1) ≡ true = ap isNull put-word ∙ null-high (underIn (F b table m i z)) ∙ g in
-          let k : moveOf (programOf b) (stateOf m) i (Here m i) (M b table m i z) fails (Put c f h) ≡ throwMove (stateOf m) i (Here m i) (M b table m i z .vars) h (slotOf 4294967296) =
-          rw n (ap (throwMove (stateOf m) i (Here m i) (M b table m i z .vars) h) (sym (word-object 0 (omega arith)))) in
+          let k : moveOf (programOf b) (stateFrom m) i (Here m i) (M b table m i z) fails (Put c f h) ≡ throwMove (stateFrom m) i (Here m i) (M b table m i z .vars) h (slotOf 4294967296) =
+          rw n (ap (throwMove (stateFrom m) i (Here m i) (M b table m i z .vars) h) (sym (word-object 0 (omega arith)))) in
           threw b table m i z fails (Put c f h) q refl h 4294967296 (listed b table m i z fails (Put c f h) q .2) k _ _ vars ev refl refl
 
       writes : leb 4294967552 (underIn (F b table m i z)) ≡ false
@@ -282,7 +282,7 @@ module _ (b : List ℕ) (table : List (List ℕ)) (m : Memory) (i : ℕ) (z : Po
               counts = m .counts;
               objects = m .objects;
               classes = m .classes;
-              fields = set (tab 128 (slotAt (m .fields))) (objectIn (underIn (F b table m i z)) * 4 + f) (slotOf (topIn (F b table m i z)));
+              fields = set (tab 128 (slotFrom (m .fields))) (objectIn (underIn (F b table m i z)) * 4 + f) (slotOf (topIn (F b table m i z)));
               held = m .held;
             };
           })
@@ -290,7 +290,7 @@ module _ (b : List ℕ) (table : List (List ℕ)) (m : Memory) (i : ℕ) (z : Po
           ∙ ap (λ (fs : List Slot). record {
             answer = 0;
             state = record {
-              threads = tab 8 (threadAt (set (m .frames) i (wentIn (droppedIn 2 (F b table m i z)) to)));
+              threads = tab 8 (threadFrom (set (m .frames) i (wentIn (droppedIn 2 (F b table m i z)) to)));
               counts = m .counts;
               objects = m .objects;
               classes = m .classes;

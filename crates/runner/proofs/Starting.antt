@@ -26,7 +26,7 @@ use Rattle.machine.specs.Moves.{moveOf}
 use Rattle.memory.specs.Tab.{tab}
 use Rattle.memory.specs.Frames.{liveIn, addressIn, depthIn, threadIn, wentIn, droppedIn, argumentIn, begunIn}
 use Rattle.memory.proofs.Frames.{Is, dropped-is, begun-is}
-use Rattle.runner.specs.Memory.{Memory, memory, frameOf, threadAt, stateOf, Sized}
+use Rattle.runner.specs.Memory.{Memory, memory, frameOf, threadFrom, stateFrom, Sized}
 use Rattle.runner.specs.Starts.{Begun, begun, idleIn, lowestIn, startedIn}
 use Rattle.runner.specs.Poised.{Poised, Turned}
 use Rattle.runner.proofs.Stores.{frame-other, threads-set, sized-set}
@@ -44,9 +44,9 @@ module _ (b : List ℕ) (table : List (List ℕ)) (m : Memory) (i : ℕ) (z : Po
   abbrev J : ℕ
   J = lowestIn (m .frames)
 
-  lowest-is : lowestFree (stateOf m) ≡ lowestIn (m .frames)
+  lowest-is : lowestFree (stateFrom m) ≡ lowestIn (m .frames)
   unfolding lowestFree lowestIn
-  lowest-is = first-same 8 (notLive (stateOf m)) (idleIn (m .frames)) (λ j l. ap (λ (t : Thread). not (t .live)) (thread-is b table m (z .running) j l))
+  lowest-is = first-same 8 (notLive (stateFrom m)) (idleIn (m .frames)) (λ j l. ap (λ (t : Thread). not (t .live)) (thread-is b table m (z .running) j l))
 
   class-known : c < programOf b .classes
   class-known = listed b table m i z fails (Start c) q .0
@@ -57,13 +57,16 @@ module _ (b : List ℕ) (table : List (List ℕ)) (m : Memory) (i : ℕ) (z : Po
   few-args : programOf b .method c .args ≤ 16
   few-args = omega (arith, formed b table m i z .args-vars c class-known, formed b table m i z .vars-16 c class-known)
 
-  pub start-known : (n : ℕ) → n ≡ at (getD table c []) 0 → (i < 8) × (n < 256)
+  pub start-args : at (getD table c []) 0 < 256
+  start-args = omega (arith, args-are b table m i z c class-known, few-args)
+
+  pub start-known : (n : ℕ) → n ≡ at (getD table c []) 0 → (i < 8) × (n < 255)
   start-known n e = (z .thread-8, omega (arith, args-are b table m i z c class-known, few-args))
 
   deep : programOf b .method c .args + 1 ≤ depthIn (F b table m i z)
   deep = leb-true _ _ (test-holds (has (programOf b .method c .args + 1) (Here m i)) 11 _ (omega arith) (quiet b table m i z fails (Start c) q))
 
-  wait-is : (t : Bool) → ltb (lowestIn (m .frames)) 8 ≡ t → waitOf (stateOf m) i (Here m i) (Start c) ≡ test t 4 0
+  wait-is : (t : Bool) → ltb (lowestIn (m .frames)) 8 ≡ t → waitOf (stateFrom m) i (Here m i) (Start c) ≡ test t 4 0
   wait-is t e = rw (lowest-is, e)
 
   -- the new thread is another one
@@ -98,8 +101,8 @@ module _ (b : List ℕ) (table : List (List ℕ)) (m : Memory) (i : ℕ) (z : Po
       next-8 : length Next ≡ 8
       next-8 = length-set (m .frames) J First ∙ z .running .sized .frames-8
 
-      all-threads : tab 8 (threadAt (set Next i Last))
-          ≡ set (set (tab 8 (threadAt (m .frames))) J (started (threadIn (frameOf (m .frames) J)) (Here m i) c n)) i (withAt (popped (n + 1) (Here m i)) (addressIn (F b table m i z) + 1))
+      all-threads : tab 8 (threadFrom (set Next i Last))
+          ≡ set (set (tab 8 (threadFrom (m .frames))) J (started (threadIn (frameOf (m .frames) J)) (Here m i) c n)) i (withAt (popped (n + 1) (Here m i)) (addressIn (F b table m i z) + 1))
       all-threads =
           threads-set Next i Last next-8 (z .thread-8) _ (last-thread .thread)
           ∙ ap (λ (ts : List Thread). set ts i (withAt (popped (n + 1) (Here m i)) (addressIn (F b table m i z) + 1)))
@@ -111,13 +114,13 @@ module _ (b : List ℕ) (table : List (List ℕ)) (m : Memory) (i : ℕ) (z : Po
 
       state-with : List Thread → Stepped
       state-with ts =
-          record { answer = 0; state = record { threads = ts; counts = m .counts; objects = m .objects; classes = m .classes; fields = stateOf m .fields; held = m .held } }
+          record { answer = 0; state = record { threads = ts; counts = m .counts; objects = m .objects; classes = m .classes; fields = stateFrom m .fields; held = m .held } }
 
-      start-moves : moveOf (programOf b) (stateOf m) i (Here m i) (M b table m i z) fails (Start c) ≡ state-with (tab 8 (threadAt (set Next i Last)))
+      start-moves : moveOf (programOf b) (stateFrom m) i (Here m i) (M b table m i z) fails (Start c) ≡ state-with (tab 8 (threadFrom (set Next i Last)))
       unfolding state-with
       start-moves =
           rw (lowest-is, ← en)
-          (ap (λ (v : Thread). state-with (set (set (tab 8 (threadAt (m .frames))) J (started v (Here m i) c n)) i (withAt (popped (n + 1) (Here m i)) (addressIn (F b table m i z) + 1))))
+          (ap (λ (v : Thread). state-with (set (set (tab 8 (threadFrom (m .frames))) J (started v (Here m i) c n)) i (withAt (popped (n + 1) (Here m i)) (addressIn (F b table m i z) + 1))))
           (thread-is b table m (z .running) J l)
           ∙ ap state-with (sym all-threads))
 

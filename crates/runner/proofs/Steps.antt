@@ -29,7 +29,7 @@ use Rattle.memory.specs.Frames.{addressIn, depthIn, threadIn, topIn, varIn, wen
 use Rattle.memory.proofs.Meaning.{word-zero}
 use Rattle.memory.proofs.Writes.{var-read, top-read}
 use Rattle.memory.proofs.Frames.{Is, went-is, pushed-is, popped-is, stored-is, caught-is, ended-is, inc-is, branched-is}
-use Rattle.runner.specs.Memory.{Memory, memory, frameOf, stateOf, Sized}
+use Rattle.runner.specs.Memory.{Memory, memory, frameOf, stateFrom, Sized}
 use Rattle.runner.specs.Poised.{Poised, Turned}
 use Rattle.runner.proofs.Stores.{threads-set, sized-set}
 use Rattle.runner.proofs.Known.{test-holds, test-rest, none-drawn, P, S, F, T, M, X, no-fault-here, step-is, few-vars, few-places, depth-16, short-code, address-256, frame-36, fits}
@@ -44,7 +44,7 @@ module _ (b : List ℕ) (table : List (List ℕ)) (m : Memory) (i : ℕ) (z : Po
 
   -- what the fault of x would test
   pub quiet : (x : Instruction) → X b table m i z ≡ x → faultOf (P b table m i z) (S b table m i z) i (T b table m i z) (M b table m i z) fails x ≡ 0
-  quiet x q = subst (λ (y : Instruction). faultOf (programOf b) (stateOf m) i here (M b table m i z) fails y ≡ 0) q (no-fault-here b table m i z fails)
+  quiet x q = subst (λ (y : Instruction). faultOf (programOf b) (stateFrom m) i here (M b table m i z) fails y ≡ 0) q (no-fault-here b table m i z fails)
 
   pub listed : (x : Instruction) → X b table m i z ≡ x
       → InstructionFits (programOf b .classes) (λ d. programOf b .method d .fields) (M b table m i z .vars) (M b table m i z .code) (addressIn (F b table m i z)) x
@@ -54,14 +54,14 @@ module _ (b : List ℕ) (table : List (List ℕ)) (m : Memory) (i : ℕ) (z : Po
 
   -- the step at x
   step-at : (x : Instruction) → X b table m i z ≡ x
-      → unlessDrawn (waitOf (stateOf m) i here x) (stateOf m) (moveOf (programOf b) (stateOf m) i here (M b table m i z) fails x)
-      ≡ unlessDrawn (waitOf (stateOf m) i here (X b table m i z)) (stateOf m) (moveOf (programOf b) (stateOf m) i here (M b table m i z) fails (X b table m i z))
-  step-at x q = ap (λ (y : Instruction). unlessDrawn (waitOf (stateOf m) i here y) (stateOf m) (moveOf (programOf b) (stateOf m) i here (M b table m i z) fails y)) (sym q)
+      → unlessDrawn (waitOf (stateFrom m) i here x) (stateFrom m) (moveOf (programOf b) (stateFrom m) i here (M b table m i z) fails x)
+      ≡ unlessDrawn (waitOf (stateFrom m) i here (X b table m i z)) (stateFrom m) (moveOf (programOf b) (stateFrom m) i here (M b table m i z) fails (X b table m i z))
+  step-at x q = ap (λ (y : Instruction). unlessDrawn (waitOf (stateFrom m) i here y) (stateFrom m) (moveOf (programOf b) (stateFrom m) i here (M b table m i z) fails y)) (sym q)
 
   -- it makes its move
   pub goes : (x : Instruction) → X b table m i z ≡ x → waitOf (S b table m i z) i (T b table m i z) x ≡ 0 → (m′ : Memory) (n : ℕ) → Sized (m′ .frames) (m′ .fields)
-      → moveOf (P b table m i z) (S b table m i z) i (T b table m i z) (M b table m i z) fails x ≡ record { answer = n; state = stateOf m′ } → Turned b m m′ n i fails
-  goes x q w m′ n s e = record { sized = s; step = sym (step-is b table m i z fails ∙ sym (step-at x q) ∙ none-drawn _ (stateOf m) _ w ∙ e) }
+      → moveOf (P b table m i z) (S b table m i z) i (T b table m i z) (M b table m i z) fails x ≡ record { answer = n; state = stateFrom m′ } → Turned b m m′ n i fails
+  goes x q w m′ n s e = record { sized = s; step = sym (step-is b table m i z fails ∙ sym (step-at x q) ∙ none-drawn _ (stateFrom m) _ w ∙ e) }
 
   -- it waits: the frame is as it was
   pub waits : (x : Instruction) → X b table m i z ≡ x → (n : ℕ) → waitOf (S b table m i z) i (T b table m i z) x ≡ n → 1 ≤ n → Turned b m m n i fails
@@ -69,10 +69,10 @@ module _ (b : List ℕ) (table : List (List ℕ)) (m : Memory) (i : ℕ) (z : Po
   waits x q n w l =
       record {
         sized = z .running .sized;
-        step = sym (step-is b table m i z fails ∙ sym (step-at x q) ∙ (rw w) ∙ drawn n l (moveOf (programOf b) (stateOf m) i here (M b table m i z) fails x));
+        step = sym (step-is b table m i z fails ∙ sym (step-at x q) ∙ (rw w) ∙ drawn n l (moveOf (programOf b) (stateFrom m) i here (M b table m i z) fails x));
       }
     where
-      drawn : (n : ℕ) → 1 ≤ n → (rest : Stepped) → unlessDrawn n (stateOf m) rest ≡ refused n (stateOf m)
+      drawn : (n : ℕ) → 1 ≤ n → (rest : Stepped) → unlessDrawn n (stateFrom m) rest ≡ refused n (stateFrom m)
       drawn n l rest = stopped _ _ (ne-eqb n 0 (omega arith))
 
   -- the thread goes on as u, and nothing else changes
@@ -81,15 +81,15 @@ module _ (b : List ℕ) (table : List (List ℕ)) (m : Memory) (i : ℕ) (z : Po
       → Turned b m (framed m i p) n i fails
   moved x q w p u n h e =
       goes x q w (framed m i p) n (sized-set (m .frames) i p (z .running .sized .frames-8) (z .thread-8) (m .fields) (z .running .sized) (h .sized))
-      (e ∙ ap (λ (ts : List Thread). record { answer = n; state = record { threads = ts; counts = m .counts; objects = m .objects; classes = m .classes; fields = stateOf m .fields; held = m .held } })
+      (e ∙ ap (λ (ts : List Thread). record { answer = n; state = record { threads = ts; counts = m .counts; objects = m .objects; classes = m .classes; fields = stateFrom m .fields; held = m .held } })
       (sym (threads-set (m .frames) i p (z .running .sized .frames-8) (z .thread-8) u (h .thread))))
 
   next-fits : addressIn (F b table m i z) + 1 < 65536
   next-fits = omega (arith, address-256 b table m i z)
 
   -- the thread goes on as u at the next address
-  went : (x : Instruction) → X b table m i z ≡ x → waitOf (stateOf m) i here x ≡ 0 → (p : List ℕ) (u : Thread) → Is p u
-      → moveOf (programOf b) (stateOf m) i here (M b table m i z) fails x ≡ wentOn (stateOf m) i (here .at) u
+  went : (x : Instruction) → X b table m i z ≡ x → waitOf (stateFrom m) i here x ≡ 0 → (p : List ℕ) (u : Thread) → Is p u
+      → moveOf (programOf b) (stateFrom m) i here (M b table m i z) fails x ≡ wentOn (stateFrom m) i (here .at) u
       → (p′ : List ℕ) (to : ℕ) → to ≡ addressIn (F b table m i z) + 1 → p′ ≡ wentIn p to → Turned b m (framed m i p′) 0 i fails
   went x q w p u h e p′ to t f =
       moved x q w p′ (withAt u (addressIn (F b table m i z) + 1)) 0 (rw (f, t) (went-is p u (addressIn (F b table m i z) + 1) h next-fits)) e
@@ -117,7 +117,7 @@ module _ (b : List ℕ) (table : List (List ℕ)) (m : Memory) (i : ℕ) (z : Po
     push0-turned =
         let l = pushes (test-holds (room (M b table m i z .limit) here) 12 0 (omega arith) (quiet Push0 q)) in
         went Push0 q refl _ _ (pushed-is (F b table m i z) (frame-36 b table m i z) (depth-16 b table m i z) 0 l)
-        (ap (λ (x : Slot). wentOn (stateOf m) i (here .at) (pushed here x)) (sym word-zero))
+        (ap (λ (x : Slot). wentOn (stateFrom m) i (here .at) (pushed here x)) (sym word-zero))
 
   var-16 : (v : Var) → v .0 < M b table m i z .vars → v .0 < 16
   var-16 v l = omega (arith, few-vars b table m i z)
@@ -128,7 +128,7 @@ module _ (b : List ℕ) (table : List (List ℕ)) (m : Memory) (i : ℕ) (z : Po
     load-turned =
         let l = pushes (test-holds (room (M b table m i z .limit) here) 12 0 (omega arith) (quiet (Load v) q)) in
         went (Load v) q refl _ _ (pushed-is (F b table m i z) (frame-36 b table m i z) (depth-16 b table m i z) (varIn (F b table m i z) (v .0)) l)
-        (ap (λ (x : Slot). wentOn (stateOf m) i (here .at) (pushed here x)) (var-read (F b table m i z) (v .0) (var-16 v (listed (Load v) q .0))))
+        (ap (λ (x : Slot). wentOn (stateFrom m) i (here .at) (pushed here x)) (var-read (F b table m i z) (v .0) (var-16 v (listed (Load v) q .0))))
 
   module _ (v : Var) (q : X b table m i z ≡ Store v) where
     pub store-turned : (p′ : List ℕ) (to : ℕ) → to ≡ addressIn (F b table m i z) + 1
@@ -142,7 +142,7 @@ module _ (b : List ℕ) (table : List (List ℕ)) (m : Memory) (i : ℕ) (z : Po
         let h = popped-is (storedIn (F b table m i z) (v .0) (topIn (F b table m i z))) (k .sized) (omega (arith, depth-16 b table m i z)) (omega arith) in
         went (Store v) q refl (poppedIn (storedIn (F b table m i z) (v .0) (topIn (F b table m i z)))) (popped 1 (stored here (v .0) (slotOf (topIn (F b table m i z)))))
         (record { sized = h .sized; thread = h .thread ∙ ap (popped 1) (k .thread) })
-        (ap (λ (x : Slot). wentOn (stateOf m) i (here .at) (popped 1 (stored here (v .0) x))) (top-read (F b table m i z) l (depth-16 b table m i z)))
+        (ap (λ (x : Slot). wentOn (stateFrom m) i (here .at) (popped 1 (stored here (v .0) x))) (top-read (F b table m i z) l (depth-16 b table m i z)))
 
   module _ (a : Addr) (q : X b table m i z ≡ If a) where
     pub if-turned : (p′ : List ℕ) (to : ℕ) → to ≡ addressIn (F b table m i z) + 1 → p′ ≡ branchedIn (F b table m i z) (a .0) to → Turned b m (framed m i p′) 0 i fails
@@ -155,8 +155,8 @@ module _ (b : List ℕ) (table : List (List ℕ)) (m : Memory) (i : ℕ) (z : Po
         (omega (arith, listed (If a) q .0 .1, short-code b table m i z)) next-fits))
         (branches (jumps (topOf here)))
       where
-        branches : (t : Bool) → cond t (wentTo (stateOf m) i (popped 1 here) (a .0)) (wentOn (stateOf m) i (here .at) (popped 1 here))
-            ≡ record { answer = 0; state = withThread (stateOf m) i (withAt (popped 1 here) (cond t (a .0) (addressIn (F b table m i z) + 1))) }
+        branches : (t : Bool) → cond t (wentTo (stateFrom m) i (popped 1 here) (a .0)) (wentOn (stateFrom m) i (here .at) (popped 1 here))
+            ≡ record { answer = 0; state = withThread (stateFrom m) i (withAt (popped 1 here) (cond t (a .0) (addressIn (F b table m i z) + 1))) }
         branches true = refl
         branches false = refl
 
@@ -177,16 +177,16 @@ module _ (b : List ℕ) (table : List (List ℕ)) (m : Memory) (i : ℕ) (z : Po
   threw x q k h w l e p′ n vars ev en ep =
       moved x q k p′ _ n (rw (ep, ev) (thrown-is (h .0) w (omega (arith, short-code b table m i z)))) (e ∙ answers)
     where
-      throws : (t : Bool) → cond t (endMove (stateOf m) i here (M b table m i z .vars) 2) (wentTo (stateOf m) i (caught here (slotOf w)) (h .0))
+      throws : (t : Bool) → cond t (endMove (stateFrom m) i here (M b table m i z .vars) 2) (wentTo (stateFrom m) i (caught here (slotOf w)) (h .0))
           ≡ record {
             answer = cond t 2 0;
-            state = withThread (stateOf m) i (cond t (ended (M b table m i z .vars) here) (withAt (caught here (slotOf w)) (h .0)));
+            state = withThread (stateFrom m) i (cond t (ended (M b table m i z .vars) here) (withAt (caught here (slotOf w)) (h .0)));
           }
       throws true = refl
       throws false = refl
 
-      answers : throwMove (stateOf m) i here (M b table m i z .vars) h (slotOf w)
-          ≡ record { answer = n; state = withThread (stateOf m) i (cond (eqb (h .0) 0) (ended (M b table m i z .vars) here) (withAt (caught here (slotOf w)) (h .0))) }
+      answers : throwMove (stateFrom m) i here (M b table m i z .vars) h (slotOf w)
+          ≡ record { answer = n; state = withThread (stateFrom m) i (cond (eqb (h .0) 0) (ended (M b table m i z .vars) here) (withAt (caught here (slotOf w)) (h .0))) }
       answers = rw en (throws (eqb (h .0) 0))
 
   module _ (h : Addr) (q : X b table m i z ≡ Throw h) where
@@ -195,7 +195,7 @@ module _ (b : List ℕ) (table : List (List ℕ)) (m : Memory) (i : ℕ) (z : Po
     throw-turned p′ n vars w ev ew en ep =
         let l : 1 ≤ depthIn (F b table m i z) = leb-true 1 _ (test-holds (has 1 here) 11 _ (omega arith) (quiet (Throw h) q)) in
         threw (Throw h) q refl h w (listed (Throw h) q)
-        (ap (throwMove (stateOf m) i here (M b table m i z .vars) h) (top-read (F b table m i z) l (depth-16 b table m i z) ∙ ap slotOf (sym ew))) p′ n vars ev en ep
+        (ap (throwMove (stateFrom m) i here (M b table m i z .vars) h) (top-read (F b table m i z) l (depth-16 b table m i z) ∙ ap slotOf (sym ew))) p′ n vars ev en ep
 
   module _ (q : X b table m i z ≡ Return) where
     pub return-turned : (p′ : List ℕ) (vars : ℕ) → vars ≡ M b table m i z .vars → p′ ≡ endedIn (F b table m i z) vars → Turned b m (framed m i p′) 1 i fails

@@ -23,7 +23,7 @@ use Rattle.memory.specs.Frames.{threadIn}
 use Rattle.memory.proofs.Tab.{tab-set}
 use Rattle.memory.proofs.Meaning.{word-zero, word-null}
 use Rattle.runner.specs.Table.{firstWord, rowOf}
-use Rattle.runner.specs.Memory.{frameOf, threadAt, slotAt, Sized}
+use Rattle.runner.specs.Memory.{frameOf, threadFrom, slotFrom, Sized}
 use Rattle.runner.specs.Objects.{fieldsIn}
 
 -- ---- one frame is written
@@ -34,9 +34,9 @@ module _ (frames : List (List ℕ)) (i : ℕ) (p : List ℕ) (n : length frames 
   pub frame-other : (j : ℕ) → j ≢ i → frameOf (set frames i p) j ≡ frameOf frames j
   frame-other j d = getD-set-other frames i j p [] d
 
-  pub threads-set : (u : Thread) → threadIn p ≡ u → tab 8 (threadAt (set frames i p)) ≡ set (tab 8 (threadAt frames)) i u
+  pub threads-set : (u : Thread) → threadIn p ≡ u → tab 8 (threadFrom (set frames i p)) ≡ set (tab 8 (threadFrom frames)) i u
   threads-set u e =
-      tab-set 8 (threadAt frames) (threadAt (set frames i p)) i u l (ap threadIn frame-own ∙ e) (λ j k d. ap threadIn (frame-other j d))
+      tab-set 8 (threadFrom frames) (threadFrom (set frames i p)) i u l (ap threadIn frame-own ∙ e) (λ j k d. ap threadIn (frame-other j d))
 
   pub sized-set : (fields : List ℕ) → Sized frames fields → length p ≡ 36 → Sized (set frames i p) fields
   sized-set fields z e =
@@ -51,9 +51,9 @@ module _ (frames : List (List ℕ)) (i : ℕ) (p : List ℕ) (n : length frames 
       go j k (no q) = ap length (frame-other j q) ∙ z .frame-36 j k
 
 -- ---- one field place is written
-pub fields-set : (fields : List ℕ) (k w : ℕ) → length fields ≡ 128 → k < 128 → tab 128 (slotAt (set fields k w)) ≡ set (tab 128 (slotAt fields)) k (slotOf w)
+pub fields-set : (fields : List ℕ) (k w : ℕ) → length fields ≡ 128 → k < 128 → tab 128 (slotFrom (set fields k w)) ≡ set (tab 128 (slotFrom fields)) k (slotOf w)
 fields-set fields k w n l =
-    tab-set 128 (slotAt fields) (slotAt (set fields k w)) k (slotOf w) l (ap slotOf (getD-set-same fields k w 0 (omega arith)))
+    tab-set 128 (slotFrom fields) (slotFrom (set fields k w)) k (slotOf w) l (ap slotOf (getD-set-same fields k w 0 (omega arith)))
     (λ j m d. ap slotOf (getD-set-other fields k j w 0 d))
 
 pub sized-field : (frames : List (List ℕ)) (fields : List ℕ) (k w : ℕ) → Sized frames fields → Sized frames (set fields k w)
@@ -88,7 +88,7 @@ module _ (b : List ℕ) (c o : ℕ) (fields : List ℕ) (n : length fields ≡ 1
   n₂ : length f₂ ≡ 128
   n₂ = length-set f₁ (o * 4 + 2) (firstWord (methodAt b c) 2) ∙ n₁
 
-  pub fields-made : tab 128 (slotAt (fieldsIn fields o (rowOf b c))) ≡ fieldsWith (tab 128 (slotAt fields)) o (firstFields (methodAt b c))
+  pub fields-made : tab 128 (slotFrom (fieldsIn fields o (rowOf b c))) ≡ fieldsWith (tab 128 (slotFrom fields)) o (firstFields (methodAt b c))
   unfolding fieldsWith
   fields-made =
       rw (

@@ -28,20 +28,20 @@ memory frames counts held objects classes fields =
 abbrev pub frameOf : List (List ℕ) → ℕ → List ℕ
 frameOf frames i = getD frames i []
 
-abbrev pub threadAt : List (List ℕ) → ℕ → Thread
-threadAt frames i = threadIn (frameOf frames i)
+abbrev pub threadFrom : List (List ℕ) → ℕ → Thread
+threadFrom frames i = threadIn (frameOf frames i)
 
-abbrev pub slotAt : List ℕ → ℕ → Slot
-slotAt fields k = slotOf (at fields k)
+abbrev pub slotFrom : List ℕ → ℕ → Slot
+slotFrom fields k = slotOf (at fields k)
 
-abbrev pub stateOf : Memory → State
-stateOf m =
+abbrev pub stateFrom : Memory → State
+stateFrom m =
     record {
-      threads = tab 8 (threadAt (m .frames));
+      threads = tab 8 (threadFrom (m .frames));
       counts = m .counts;
       objects = m .objects;
       classes = m .classes;
-      fields = tab 128 (slotAt (m .fields));
+      fields = tab 128 (slotFrom (m .fields));
       held = m .held;
     }
 

@@ -10,14 +10,14 @@ use Rattle.soundness.specs.Invariant.{Inv}
 use Rattle.memory.specs.Tab.{tab}
 use Rattle.memory.specs.Frames.{liveIn}
 use Rattle.runner.specs.Table.{rowOf}
-use Rattle.runner.specs.Memory.{Memory, frameOf, stateOf, Sized}
+use Rattle.runner.specs.Memory.{Memory, frameOf, stateFrom, Sized}
 
 -- the bundle is accepted, and the memory is a state that keeps the invariant
 pub record Running (b : List ℕ) (table : List (List ℕ)) (m : Memory) : Type 0 where
   pub accepted : verdictOf b .number ≡ 0
   pub tabled : table ≡ tab 8 (rowOf b)
   pub sized : Sized (m .frames) (m .fields)
-  pub inv : Inv (typedOf b) (stateOf m)
+  pub inv : Inv (typedOf b) (stateFrom m)
 
 -- .. and thread i is live
 pub record Poised (b : List ℕ) (table : List (List ℕ)) (m : Memory) (i : ℕ) : Type 0 where
@@ -28,4 +28,4 @@ pub record Poised (b : List ℕ) (table : List (List ℕ)) (m : Memory) (i : ℕ
 -- the answer and the new memory are those of document 01's step of thread i
 pub record Turned (b : List ℕ) (m m′ : Memory) (answer i : ℕ) (fails : Bool) : Type 0 where
   pub sized : Sized (m′ .frames) (m′ .fields)
-  pub step : record { answer = answer; state = stateOf m′ } ≡ stepOf b (stateOf m) i fails
+  pub step : record { answer = answer; state = stateFrom m′ } ≡ stepOf b (stateFrom m) i fails

@@ -17,7 +17,7 @@ fn place(o: u8, f: u8) -> usize
 pub(crate) fn get(
     frame: &mut [u64; 36],
     fields: &[u64; 128],
-    vars: u64,
+    vars: u8,
     f: u8,
     h: Addr,
     to: u16,
@@ -38,7 +38,7 @@ pub(crate) fn get(
 pub(crate) fn put(
     frame: &mut [u64; 36],
     fields: &mut [u64; 128],
-    vars: u64,
+    vars: u8,
     f: u8,
     h: Addr,
     to: u16,

@@ -66,7 +66,7 @@ fn accepted(b: &[u8], schedule: &[u8], v: Verdict) -> Ran
             steps += 1;
         }
     }
-    let last = states::state_of(&frames, counts, held, objects, classes, &fields);
+    let last = states::state_from(&frames, counts, held, objects, classes, &fields);
     Ran {
         answer: 0,
         verdict: v,

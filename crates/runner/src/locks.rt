@@ -27,7 +27,7 @@ pub(crate) fn enter(
     counts: &mut [u16; 256],
     held: &mut [u32; 8],
     i: usize,
-    vars: u64,
+    vars: u8,
     v: Var,
     h: Addr,
     to: u16,

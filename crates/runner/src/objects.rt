@@ -34,7 +34,7 @@ pub(crate) fn new(
     objects: &mut u8,
     classes: &mut [u8; 32],
     fields: &mut [u64; 128],
-    vars: u64,
+    vars: u8,
     fails: bool,
     c: u8,
     h: Addr,

@@ -18,8 +18,8 @@ fn lowest(frames: &[[u64; 36]; 8]) -> usize
 }
 
 // 4 where eight threads are live, else 0.
-pub(crate) fn start(frames: &mut [[u64; 36]; 8], i: usize, n: u64, c: u8, to: u16) -> u8
-    requires { ⌜ (i < 8) × (n < 256) ⌝ }
+pub(crate) fn start(frames: &mut [[u64; 36]; 8], i: usize, n: u8, c: u8, to: u16) -> u8
+    requires { ⌜ (i < 8) × (n < 255) ⌝ }
     ensures { λ r. ⌜ begun r (now (frames .exit)) ≡ startedIn (now (frames .entry)) i n c to ⌝ }
 {
     let j = lowest(frames);

@@ -1,13 +1,13 @@
 // The state that the arrays stand for, made once, at the end.
 ghost use mathlib.Core.Path.{_≡_};
 ghost use Rattle.memory.specs.Tab.{tab};
-ghost use Rattle.runner.specs.Memory.{memory, threadAt, slotAt, stateOf};
+ghost use Rattle.runner.specs.Memory.{memory, threadFrom, slotFrom, stateFrom};
 use state::State;
 use threads::Thread;
 use values::Slot;
 
-fn threads_of(frames: &[[u64; 36]; 8]) -> [Thread; 8]
-    ensures { λ r. ⌜ r ≡ tab 8 (threadAt (now (frames .entry))) ⌝ }
+fn threads_from(frames: &[[u64; 36]; 8]) -> [Thread; 8]
+    ensures { λ r. ⌜ r ≡ tab 8 (threadFrom (now (frames .entry))) ⌝ }
 {
     let t = threads::idle();
     let mut next = [t; 8];
@@ -20,8 +20,8 @@ fn threads_of(frames: &[[u64; 36]; 8]) -> [Thread; 8]
     next
 }
 
-fn slots_of(fields: &[u64; 128]) -> [Slot; 128]
-    ensures { λ r. ⌜ r ≡ tab 128 (slotAt (now (fields .entry))) ⌝ }
+fn slots_from(fields: &[u64; 128]) -> [Slot; 128]
+    ensures { λ r. ⌜ r ≡ tab 128 (slotFrom (now (fields .entry))) ⌝ }
 {
     let z = values::zero_slot();
     let mut next = [z; 128];
@@ -34,7 +34,7 @@ fn slots_of(fields: &[u64; 128]) -> [Slot; 128]
     next
 }
 
-pub(crate) fn state_of(
+pub(crate) fn state_from(
     frames: &[[u64; 36]; 8],
     counts: [u16; 256],
     held: [u32; 8],
@@ -42,10 +42,10 @@ pub(crate) fn state_of(
     classes: [u8; 32],
     fields: &[u64; 128],
 ) -> State
-    ensures { λ r. ⌜ r ≡ stateOf (memory (now (frames .entry)) counts held objects classes (now (fields .entry))) ⌝ }
+    ensures { λ r. ⌜ r ≡ stateFrom (memory (now (frames .entry)) counts held objects classes (now (fields .entry))) ⌝ }
 {
-    let threads = threads_of(frames);
-    let slots = slots_of(fields);
+    let threads = threads_from(frames);
+    let slots = slots_from(fields);
     State {
         threads: threads,
         counts: counts,

@@ -30,7 +30,7 @@ fn exec(
 {
     let q = memory::class(&frames[i]) as usize;
     let at = memory::address(&frames[i]);
-    let vars = table[q][1];
+    let vars = table[q][1] as u8;
     let to = at + 1;
     let x = table::instruction_from(b, table[q][2] as usize + 4 * (at as usize - 1));
     match x {
@@ -77,7 +77,7 @@ fn exec(
         ),
         Instruction::Start(c) => {
             let k = c as usize;
-            starts::start(frames, i, table[k][0], c, to)
+            starts::start(frames, i, table[k][0] as u8, c, to)
         }
         Instruction::Throw(h) => {
             let w = memory::top(&frames[i]);

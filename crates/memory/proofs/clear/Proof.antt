@@ -16,6 +16,9 @@ abbrev μ-loop : tie.MeasureT-loop
 loop-holds : tie.Need-loop-holds Inv-loop μ-loop
 loop-holds c = (omega arith, sym (cleared-zero _))
 
+cast-k : tie.Need-cast-k Inv-loop μ-loop
+cast-k c = search needs
+
 mul-p : tie.Need-mul-p Inv-loop μ-loop
 mul-p c = search needs
 
@@ -37,4 +40,4 @@ returns c = let e : c .before .loop .v ≡ c .before .before .args .vars = omega
 pub clear-spec : {M : Type 1} → statement M
 clear-spec =
     tie.close
-    (tie.spec Inv-loop μ-loop loop-holds mul-p element-write-p add-v loop-less loop-again returns)
+    (tie.spec Inv-loop μ-loop loop-holds cast-k mul-p element-write-p add-v loop-less loop-again returns)

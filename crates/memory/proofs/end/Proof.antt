@@ -8,6 +8,9 @@ clear-requires c κs = search needs
 element-copy-out-n : tie.Need-element-copy-out-n
 element-copy-out-n c = search needs
 
+cast-n : tie.Need-cast-n
+cast-n c = search needs
+
 drop-all-requires : tie.Need-drop-all-requires
 drop-all-requires c κs = search needs
 
@@ -32,6 +35,7 @@ end-spec =
     (tie.spec
     clear-requires
     element-copy-out-n
+    cast-n
     drop-all-requires
     element-write-p
     element-write-p-2

@@ -13,6 +13,9 @@ returns c = let e = eq-eqb _ _ (c .before .before .if1 .taken) in (rw e, rw e (c
 element-copy-out-n : tie.Need-element-copy-out-n
 element-copy-out-n c = search needs
 
+cast-n : tie.Need-cast-n
+cast-n c = search needs
+
 drop-all-requires : tie.Need-drop-all-requires
 drop-all-requires c κs = search needs
 
@@ -25,4 +28,4 @@ returns-2 c = let e = ne-eqb _ _ (c .before .before .before .before .before .if1
 pub throw-spec : {M : Type 1} → statement M
 throw-spec =
     tie.close
-    (tie.spec end-requires returns element-copy-out-n drop-all-requires push-requires returns-2)
+    (tie.spec end-requires returns element-copy-out-n cast-n drop-all-requires push-requires returns-2)

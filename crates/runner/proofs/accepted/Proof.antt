@@ -58,13 +58,13 @@ loop-again c = (
       (⊎-elim (λ w. counted-in _ _ _ (w .0 .taken) (w .1)) (λ w. counted-out _ _ _ (w .0 .left) (w .1)) (c .if1 .came)),
 )
 
-state-of-requires : tie.Need-state-of-requires Inv-loop μ-loop
-state-of-requires c κs = search needs
+state-from-requires : tie.Need-state-from-requires Inv-loop μ-loop
+state-from-requires c κs = search needs
 
 returns : tie.Need-returns Inv-loop μ-loop
 returns c =
     let h = arrives _ _ _ _ _ _ (c .before .before .before .before .loop .inv .3) (omega (arith, c .before .before .before .before .loop .inv .0, c .before .before .before .before .loop .inv .1, c .before .before .before .loop-test .left)) in
-    rw (c .state-of .ensures, h .0, h .1, c .before .before .before .before .before .before .before .before .before .before .before .before .before .before .before .before .pre .0) (ran-accepted _ _ (rw (← c .before .before .before .before .before .before .before .before .before .before .before .before .before .before .before .before .pre .0) (c .before .before .before .before .before .before .before .before .before .before .before .before .before .before .before .before .pre .1)))
+    rw (c .state-from .ensures, h .0, h .1, c .before .before .before .before .before .before .before .before .before .before .before .before .before .before .before .before .pre .0) (ran-accepted _ _ (rw (← c .before .before .before .before .before .before .before .before .before .before .before .before .before .before .before .before .pre .0) (c .before .before .before .before .before .before .before .before .before .before .before .before .before .before .before .before .pre .1)))
 
 pub accepted-spec : {M : Type 1} → statement M
 accepted-spec =
@@ -84,5 +84,5 @@ accepted-spec =
     add-n
     loop-less
     loop-again
-    state-of-requires
+    state-from-requires
     returns)

@@ -1,5 +1,5 @@
 use Rattle.memory.proofs.Tab.{all-set}
-use Rattle.memory.specs.Frames.{slotAt}
+use Rattle.memory.specs.Frames.{slotIn}
 use Rattle.values.specs.Values.{zeroSlot}
 use Rattle.ground.proofs.Writes.{set-zero, set-more}
 use Rattle.ground.specs.Bounded.{setBelow}
@@ -12,7 +12,7 @@ use Rattle.memory.proofs.words.slots.Statement.{statement}
 use Rattle.memory.proofs.words.slots.Tie as tie
 
 abbrev Inv-loop : tie.InvT-loop
-Inv-loop p from next₀ v₀ next v = (v ≤ 16) × (next ≡ setBelow v (slotAt p from) (replicate 16 zeroSlot))
+Inv-loop p from next₀ v₀ next v = (v ≤ 16) × (next ≡ setBelow v (slotIn p from) (replicate 16 zeroSlot))
 
 abbrev μ-loop : tie.MeasureT-loop
 μ-loop p from next₀ v₀ next v = 16 - v

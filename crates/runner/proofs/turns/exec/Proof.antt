@@ -1,9 +1,9 @@
 use native.Mathlib.Omega.{arith}
-use Rattle.runner.proofs.Starting.{start-class, start-known, start-turned}
+use Rattle.runner.proofs.Starting.{start-class, start-args, start-known, start-turned}
 use Rattle.runner.proofs.Making.{new-known, new-turned, get-known, get-turned, put-known, put-turned}
 use Rattle.runner.proofs.Entering.{enter-known, enter-turned, exit-known, exit-turned}
 use Rattle.runner.proofs.Steps.{inc-turned, pop-turned, push0-turned, load-turned, store-turned, if-turned, throw-turned, return-turned, never-nothing}
-use Rattle.runner.proofs.Known.{vars-are, code-read, class-small, next-small, address-some, place-small, stands-at}
+use Rattle.runner.proofs.Known.{vars-are, code-read, class-small, next-small, vars-small, address-some, place-small, stands-at}
 use Prim.Native.Nat.{ℕ, _+_}
 use mathlib.Core.Path.{refl, ap}
 use borrow.Author.Needs.{needs}
@@ -39,6 +39,9 @@ index-1-vars c = class-small _ _ _ _ (c .before .before .before .before .before 
 
 index-2-vars : tie.Need-index-2-vars
 index-2-vars c = search needs
+
+cast-vars : tie.Need-cast-vars
+cast-vars c = record { fits = vars-small _ _ _ _ (c .before .before .before .before .before .before .pre) _ _ (c .before .before .before .class .ensures) (c .before .address .ensures) }
 
 add-to : tie.Need-add-to
 add-to c = omega (arith, next-small _ _ _ _ (c .before .before .before .before .before .before .pre) _ _ (c .before .before .before .class .ensures) (c .before .address .ensures))
@@ -190,6 +193,9 @@ index-1-start c = start-class _ _ _ _ (c .before .before .before .before .before
 index-2-start : tie.Need-index-2-start
 index-2-start c = search needs
 
+cast-start : tie.Need-cast-start
+cast-start c = record { fits = start-args _ _ _ _ (c .before .before .before .before .before .before .before .before .before .before .before .before .before .pre) (c .before .before .before .before .before .before .before .before .before .before .before .before .before .args .fails) _ (stands-at _ _ _ _ (c .before .before .before .before .before .before .before .before .before .before .before .before .before .pre) _ _ (c .before .before .before .before .before .before .before .before .before .before .class .ensures) (c .before .before .before .before .before .before .before .before .address .ensures) _ _ (c .before .before .before .before .before .instruction-from .ensures) (c .before .before .before .x7 .given .1)) }
+
 start-requires : tie.Need-start-requires
 start-requires c κs = start-known _ _ _ _ (c .before .before .before .before .before .before .before .before .before .before .before .before .before .pre) (c .before .before .before .before .before .before .before .before .before .before .before .before .before .args .fails) _ (stands-at _ _ _ _ (c .before .before .before .before .before .before .before .before .before .before .before .before .before .pre) _ _ (c .before .before .before .before .before .before .before .before .before .before .class .ensures) (c .before .before .before .before .before .before .before .before .address .ensures) _ _ (c .before .before .before .before .before .instruction-from .ensures) (c .before .before .before .x7 .given .1)) _ refl
 
@@ -312,6 +318,7 @@ exec-spec =
     mul-vars
     index-1-vars
     index-2-vars
+    cast-vars
     add-to
     mul-instruction-from
     index-1-instruction-from
@@ -362,6 +369,7 @@ exec-spec =
     mul-start
     index-1-start
     index-2-start
+    cast-start
     start-requires
     enum-known-x-8
     mul-top

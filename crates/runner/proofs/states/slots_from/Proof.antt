@@ -1,4 +1,4 @@
-use Rattle.runner.specs.Memory.{slotAt}
+use Rattle.runner.specs.Memory.{slotFrom}
 use Rattle.memory.proofs.Tab.{all-set}
 use Rattle.values.specs.Values.{zeroSlot}
 use Rattle.ground.proofs.Writes.{set-zero, set-more}
@@ -8,11 +8,11 @@ use lib.ListN.{replicate}
 use mathlib.Core.Path.{_≡_, refl, sym}
 use Prim.Native.Nat.{_≤_, _-_}
 use borrow.Author.Needs.{needs}
-use Rattle.runner.proofs.states.slots_of.Statement.{statement}
-use Rattle.runner.proofs.states.slots_of.Tie as tie
+use Rattle.runner.proofs.states.slots_from.Statement.{statement}
+use Rattle.runner.proofs.states.slots_from.Tie as tie
 
 abbrev Inv-loop : tie.InvT-loop
-Inv-loop fields next₀ k₀ next k = (k ≤ 128) × (next ≡ setBelow k (slotAt fields) (replicate 128 zeroSlot))
+Inv-loop fields next₀ k₀ next k = (k ≤ 128) × (next ≡ setBelow k (slotFrom fields) (replicate 128 zeroSlot))
 
 abbrev μ-loop : tie.MeasureT-loop
 μ-loop fields next₀ k₀ next k = 128 - k
@@ -50,8 +50,8 @@ loop-again c = (omega arith, rw (c .slot-of .ensures, c .before .before .before 
 returns : tie.Need-returns Inv-loop μ-loop
 returns c = let e : c .before .loop .k ≡ 128 = omega arith in rw (c .before .loop .inv .1, e) (all-set 128 _ (replicate 128 zeroSlot) refl)
 
-pub slots-of-spec : {M : Type 1} → statement M
-slots-of-spec =
+pub slots-from-spec : {M : Type 1} → statement M
+slots-from-spec =
     tie.close
     (tie.spec
     Inv-loop

@@ -1,4 +1,4 @@
-use Rattle.runner.specs.Memory.{threadAt}
+use Rattle.runner.specs.Memory.{threadFrom}
 use Rattle.memory.proofs.Tab.{all-set}
 use Rattle.threads.specs.Threads.{idle}
 use Rattle.ground.proofs.Writes.{set-zero, set-more}
@@ -8,11 +8,11 @@ use lib.ListN.{replicate}
 use mathlib.Core.Path.{_≡_, refl, sym}
 use Prim.Native.Nat.{_≤_, _-_}
 use borrow.Author.Needs.{needs}
-use Rattle.runner.proofs.states.threads_of.Statement.{statement}
-use Rattle.runner.proofs.states.threads_of.Tie as tie
+use Rattle.runner.proofs.states.threads_from.Statement.{statement}
+use Rattle.runner.proofs.states.threads_from.Tie as tie
 
 abbrev Inv-loop : tie.InvT-loop
-Inv-loop frames next₀ i₀ next i = (i ≤ 8) × (next ≡ setBelow i (threadAt frames) (replicate 8 idle))
+Inv-loop frames next₀ i₀ next i = (i ≤ 8) × (next ≡ setBelow i (threadFrom frames) (replicate 8 idle))
 
 abbrev μ-loop : tie.MeasureT-loop
 μ-loop frames next₀ i₀ next i = 8 - i
@@ -50,8 +50,8 @@ loop-again c = (omega arith, rw (c .thread-in .ensures, c .before .before .befor
 returns : tie.Need-returns Inv-loop μ-loop
 returns c = let e : c .before .loop .i ≡ 8 = omega arith in rw (c .before .loop .inv .1, e) (all-set 8 _ (replicate 8 idle) refl)
 
-pub threads-of-spec : {M : Type 1} → statement M
-threads-of-spec =
+pub threads-from-spec : {M : Type 1} → statement M
+threads-from-spec =
     tie.close
     (tie.spec
     Inv-loop
