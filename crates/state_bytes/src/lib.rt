@@ -5,7 +5,7 @@ ghost use lib.ListN.{replicate};
 ghost use Rattle.ground.specs.Bounded.{allBelow, setBelow};
 ghost use Rattle.values.specs.Values.{zeroSlot};
 ghost use Rattle.threads.specs.Threads.{idle};
-ghost use Rattle.state_bytes.specs.Format.{isPlace, isPlaceAt, isThread, isThreadAt, isState, placeOf, placeAt, threadOf, threadsAt, countAt, classAt, wordAt, stateOf};
+ghost use Rattle.state_bytes.specs.Format.{isPlace, isPlaceAt, isThread, isState, placeOf, placeAt, threadOf, threadsAt, countAt, classAt, wordAt, stateOf};
 use instructions::Addr;
 use state::State;
 use threads::Thread;

@@ -129,7 +129,7 @@ module _ (s : State) where
   abbrev E : List ℕ
   E = each 8 (wordBytesAt (s .held))
 
-  long-A : length A ≡ 1320
+  pub long-A : length A ≡ 1320
   long-A = long-165 (threadBytesAt (s .threads)) (λ i. thread-long (getD (s .threads) i idle)) 8
 
   long-B : length B ≡ 512
@@ -156,20 +156,24 @@ module _ (s : State) where
   abbrev ABOCD : List ℕ
   ABOCD = (((A ++ B) ++ (s .objects ∷ [])) ++ C) ++ D
 
-  long-AB : length AB ≡ 1832
+  pub long-AB : length AB ≡ 1832
   long-AB = omega (arith, long-A, long-B, length-more A B)
 
-  long-ABO : length ABO ≡ 1833
+  pub long-ABO : length ABO ≡ 1833
   long-ABO = omega (arith, long-AB, length-more AB (s .objects ∷ []))
 
-  long-ABOC : length ABOC ≡ 1865
+  pub long-ABOC : length ABOC ≡ 1865
   long-ABOC = omega (arith, long-ABO, long-C, length-more ABO C)
 
-  long-ABOCD : length ABOCD ≡ 2505
+  pub long-ABOCD : length ABOCD ≡ 2505
   long-ABOCD = omega (arith, long-ABOC, long-D, length-more ABOC D)
 
   parts-long : length (ABOCD ++ E) ≡ 2537
   parts-long = omega (arith, long-ABOCD, long-E, length-more ABOCD E)
+
+  pub bytes-long : length (stateBytes s) ≡ 2537
+  unfolding stateBytes
+  bytes-long = parts-long
 
   pub state-written : (g : List ℕ) → length g ≡ 2537
       → written 2505 (each 8 (wordBytesAt (s .held))) (written 1865 (each 128 (placeBytesAt (s .fields))) (written 1833 (each 32 (classBytesAt (s .classes)))

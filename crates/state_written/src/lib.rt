@@ -11,6 +11,7 @@ use crate::places::put_place;
 use crate::places::put_places;
 use crate::places::put_quad;
 use state::State;
+use state_bytes::LENGTH;
 use threads::Thread;
 use values::Slot;
 
@@ -20,7 +21,7 @@ fn live_byte(t: Thread) -> u8
     if t.live { 1 } else { 0 }
 }
 
-fn put_thread(out: &mut [u8; 2537], p: usize, t: Thread)
+fn put_thread(out: &mut [u8; LENGTH], p: usize, t: Thread)
     requires { ⌜ p + 165 ≤ 2537 ⌝ }
     ensures { λ r. ⌜ now (out .exit) ≡ written p (threadBytes t) (now (out .entry)) ⌝ }
 {
@@ -34,7 +35,7 @@ fn put_thread(out: &mut [u8; 2537], p: usize, t: Thread)
     put_places(out, p + 85, stack);
 }
 
-fn put_threads(out: &mut [u8; 2537], l: [Thread; 8])
+fn put_threads(out: &mut [u8; LENGTH], l: [Thread; 8])
     ensures { λ r. ⌜ now (out .exit) ≡ written 0 (each 8 (threadBytesAt l)) (now (out .entry)) ⌝ }
 {
     let mut i: usize = 0;
@@ -45,7 +46,7 @@ fn put_threads(out: &mut [u8; 2537], l: [Thread; 8])
     }
 }
 
-fn put_counts(out: &mut [u8; 2537], l: [u16; 256])
+fn put_counts(out: &mut [u8; LENGTH], l: [u16; 256])
     ensures { λ r. ⌜ now (out .exit) ≡ written 1320 (each 256 (countBytesAt l)) (now (out .entry)) ⌝ }
 {
     let mut i: usize = 0;
@@ -55,7 +56,7 @@ fn put_counts(out: &mut [u8; 2537], l: [u16; 256])
     }
 }
 
-fn put_classes(out: &mut [u8; 2537], l: [u8; 32])
+fn put_classes(out: &mut [u8; LENGTH], l: [u8; 32])
     ensures { λ r. ⌜ now (out .exit) ≡ written 1833 (each 32 (classBytesAt l)) (now (out .entry)) ⌝ }
 {
     let mut i: usize = 0;
@@ -65,7 +66,7 @@ fn put_classes(out: &mut [u8; 2537], l: [u8; 32])
     }
 }
 
-fn put_fields(out: &mut [u8; 2537], l: [Slot; 128])
+fn put_fields(out: &mut [u8; LENGTH], l: [Slot; 128])
     ensures { λ r. ⌜ now (out .exit) ≡ written 1865 (each 128 (placeBytesAt l)) (now (out .entry)) ⌝ }
 {
     let mut i: usize = 0;
@@ -76,7 +77,7 @@ fn put_fields(out: &mut [u8; 2537], l: [Slot; 128])
     }
 }
 
-fn put_words(out: &mut [u8; 2537], l: [u32; 8])
+fn put_words(out: &mut [u8; LENGTH], l: [u32; 8])
     ensures { λ r. ⌜ now (out .exit) ≡ written 2505 (each 8 (wordBytesAt l)) (now (out .entry)) ⌝ }
 {
     let mut i: usize = 0;
@@ -86,10 +87,10 @@ fn put_words(out: &mut [u8; 2537], l: [u32; 8])
     }
 }
 
-pub fn bytes(s: State) -> [u8; 2537]
+pub fn bytes(s: State) -> [u8; LENGTH]
     ensures { λ r. ⌜ r ≡ stateBytes s ⌝ }
 {
-    let mut out = [0u8; 2537];
+    let mut out = [0u8; LENGTH];
     let threads = s.threads;
     let counts = s.counts;
     let classes = s.classes;

@@ -1,8 +1,9 @@
 // Numbers, big-endian, and places.
 ghost use mathlib.Core.Path.{_≡_};
-ghost use Prim.Native.Nat.{_+_, _%_, _/_, _<_, _≤_};
+ghost use Prim.Native.Nat.{_+_, _%_, _≤_};
 ghost use Rattle.ground.specs.Lists.{each};
 ghost use Rattle.state_written.specs.Written.{written, kindOf, numberIn, halves, quadBytes, placeBytes, placeBytesAt};
+use state_bytes::LENGTH;
 use values::Slot;
 use values::Value;
 
@@ -12,7 +13,7 @@ fn low(n: u32) -> u8
     (n % 256) as u8
 }
 
-pub(crate) fn put_halves(out: &mut [u8; 2537], p: usize, n: u16)
+pub(crate) fn put_halves(out: &mut [u8; LENGTH], p: usize, n: u16)
     requires { ⌜ p + 2 ≤ 2537 ⌝ }
     ensures { λ r. ⌜ now (out .exit) ≡ written p (halves n) (now (out .entry)) ⌝ }
 {
@@ -20,7 +21,7 @@ pub(crate) fn put_halves(out: &mut [u8; 2537], p: usize, n: u16)
     out[p + 1] = low(n as u32);
 }
 
-pub(crate) fn put_quad(out: &mut [u8; 2537], p: usize, n: u32)
+pub(crate) fn put_quad(out: &mut [u8; LENGTH], p: usize, n: u32)
     requires { ⌜ p + 4 ≤ 2537 ⌝ }
     ensures { λ r. ⌜ now (out .exit) ≡ written p (quadBytes n) (now (out .entry)) ⌝ }
 {
@@ -52,7 +53,7 @@ fn number(x: Slot) -> u32
     }
 }
 
-pub(crate) fn put_place(out: &mut [u8; 2537], p: usize, x: Slot)
+pub(crate) fn put_place(out: &mut [u8; LENGTH], p: usize, x: Slot)
     requires { ⌜ p + 5 ≤ 2537 ⌝ }
     ensures { λ r. ⌜ now (out .exit) ≡ written p (placeBytes x) (now (out .entry)) ⌝ }
 {
@@ -60,7 +61,7 @@ pub(crate) fn put_place(out: &mut [u8; 2537], p: usize, x: Slot)
     put_quad(out, p + 1, number(x));
 }
 
-pub(crate) fn put_places(out: &mut [u8; 2537], p: usize, l: [Slot; 16])
+pub(crate) fn put_places(out: &mut [u8; LENGTH], p: usize, l: [Slot; 16])
     requires { ⌜ p + 80 ≤ 2537 ⌝ }
     ensures { λ r. ⌜ now (out .exit) ≡ written p (each 16 (placeBytesAt l)) (now (out .entry)) ⌝ }
 {
