@@ -57,7 +57,8 @@ uint64_t hveitmar_meets(const uint8_t *bundle, size_t length, const uint8_t *sch
    where out has fewer than HVEITMAR_STATE_BYTES and nothing was judged or run.
    With 0 and 19 the first HVEITMAR_STATE_BYTES of out are the last state, as the program
    hveitmar_trace takes it; with 19 it has no live thread and no object, and all are 0. All other
-   bytes of out stay as they are. */
+   bytes of out stay as they are. out must not overlap what is lent for reading, bundle and
+   schedule. */
 uint64_t hveitmar_run(const uint8_t *bundle, size_t length, const uint8_t *schedule, size_t steps,
                       uint8_t *out, size_t out_length);
 
