@@ -40,7 +40,11 @@ fn main() {
     verify_lines(rounds);
     machine_lines(rounds);
     size_lines(rounds);
-    println!("\nlists of {LIST} steps; step: the first {STEPS} of them one by one, by the proved machine");
+    println!(
+        "\nlists of {LIST} steps, each run by one call; ns a step, steps that wait among them. proved: \
+         hveitmar_run; Rust: the safe machine that judges once and changes one state in place; step: \
+         the first {STEPS} of the list by the proved single step, and times: step / proved"
+    );
     table::header(Last::Steps(STEPS));
     run_lines(rounds);
 }

@@ -4,7 +4,7 @@ mod differences;
 pub mod digest;
 mod histories;
 pub mod holdings;
-mod lists;
+pub mod lists;
 pub mod meetings;
 pub mod order;
 pub mod orders;

@@ -3,17 +3,47 @@
 
 use crate::proved::{self, STATE_BYTES};
 use crate::Differences;
+use generator::families::{self, contending, recurring, sized};
 use generator::lively::Lively;
 use generator::rng::Rng;
-use generator::schedule::{list, IGNORED_IN_LISTS};
+use generator::schedule::{list, schedule, IGNORED_IN_LISTS};
 use hveitmar::RunRefusal;
 use reference::bundle::Bundle;
-use reference::machine::{answer, fresh_in, step_in};
+use reference::machine::{answer, fresh, fresh_in, step_in};
 use reference::run::{run, Ran};
+use reference::state::THREADS;
 use trace::encode_state;
 
 /// One list in so many is also run into lent bytes of other lengths.
 const LISTS_A_LENT_BUFFER: usize = 16;
+/// One long list for so many others.
+const LISTS_A_LONG_ONE: u64 = 256;
+/// How many steps a long list has: more than two bytes can count.
+const LONG: usize = 70_000;
+/// How many steps one has in which a slip should be seen.
+const SHORT: usize = 100;
+
+/// A bundle and a list by seed, such that each slip of the call is seen in some:
+/// threads that want the same locks, threads that are started again and again,
+/// any bundle, and now and then a long list.
+pub fn input(seed: u64) -> (Vec<u8>, Vec<u8>) {
+    let mut rng = Rng::new(seed);
+    let bundle = match seed % 4 {
+        0 => contending::contending(&mut rng).lay_out(),
+        1 => recurring::recurring(&mut rng).lay_out(),
+        _ if seed % 16 == 2 => return long_list(&mut rng),
+        _ => families::bundle(seed).1,
+    };
+    let turns = schedule(&bundle, &fresh(&bundle).1, seed, SHORT);
+    (bundle, list(&mut rng, &turns))
+}
+
+/// Threads that never end, and more of their steps than two bytes can count.
+fn long_list(rng: &mut Rng) -> (Vec<u8>, Vec<u8>) {
+    let threads = rng.between(1, THREADS);
+    let turns = list(rng, &sized::turns(threads, LONG));
+    (sized::endless(threads, 0), turns)
+}
 
 #[derive(Debug, Default)]
 pub struct Lists {
@@ -34,28 +64,51 @@ pub struct Lists {
     fields: u64,
     /// Bytes with bits that say nothing.
     ignored_bits: u64,
+    /// Lists of which more steps are taken than two bytes can count.
+    long: u64,
 }
 
 impl Lists {
-    /// A schedule as a list, with any bits that say nothing.
+    /// A schedule as a list, with any bits that say nothing; and at times a long
+    /// list.
     pub fn add(&mut self, bundle: &[u8], lively: &Lively, seed: u64, to: &mut Differences) {
         let mut rng = Rng::new(seed ^ 0x715B_0000_0000_0000);
         let list = list(&mut rng, &lively.schedule);
-        let ran = run(bundle, &list);
-        let answers = stepped(bundle, &list, &ran);
+        self.compare(&mut rng, bundle, &list, Some(lively), seed, to);
+        if seed % LISTS_A_LONG_ONE == 1 {
+            let (bundle, list) = long_list(&mut rng);
+            self.compare(&mut rng, &bundle, &list, None, seed, to);
+        }
+    }
+
+    fn compare(
+        &mut self,
+        rng: &mut Rng,
+        bundle: &[u8],
+        list: &[u8],
+        lively: Option<&Lively>,
+        seed: u64,
+        to: &mut Differences,
+    ) {
+        let ran = run(bundle, list);
+        let answers = stepped(bundle, list, &ran);
         let found = [
-            difference(bundle, &list, &ran),
+            difference(bundle, list, &ran),
             answers.as_ref().err().cloned(),
-            lent_difference(&mut rng, bundle, &list),
+            lent_difference(rng, bundle, list),
         ];
         for difference in found.into_iter().flatten() {
             let what = format!("list of the schedule of seed {seed}: {difference}");
-            to.add(what, &[bundle, &list]);
+            to.add(what, &[bundle, list]);
         }
-        self.count(&list, &ran, &answers.unwrap_or_default(), lively);
+        let answers = answers.unwrap_or_default();
+        self.count(list, &ran, &answers);
+        if let Some(lively) = lively.filter(|lively| lively.answers == answers) {
+            self.count_led_to(lively);
+        }
     }
 
-    fn count(&mut self, list: &[u8], ran: &Ran, answers: &[u8], lively: &Lively) {
+    fn count(&mut self, list: &[u8], ran: &Ran, answers: &[u8]) {
         self.lists += 1;
         let ignored = list.iter().filter(|&&byte| byte & IGNORED_IN_LISTS != 0);
         self.ignored_bits += ignored.count() as u64;
@@ -70,13 +123,15 @@ impl Lists {
         self.taken += ran.number;
         self.none_taken += u64::from(ran.number == 0 && !list.is_empty());
         self.empty += u64::from(list.is_empty());
-        // What the schedule led to, where the list is the same steps.
-        if answers == lively.answers {
-            let fields = lively.fields;
-            self.throws += u64::from(lively.caught_athrow || lively.caught_new);
-            self.nulls += u64::from(fields.caught + fields.uncaught > 0);
-            self.fields += u64::from(fields.read + fields.written > 0);
-        }
+        self.long += u64::from(ran.number > u64::from(u16::MAX));
+    }
+
+    /// What the schedule led to, where the list is the same steps.
+    fn count_led_to(&mut self, lively: &Lively) {
+        let fields = lively.fields;
+        self.throws += u64::from(lively.caught_athrow || lively.caught_new);
+        self.nulls += u64::from(fields.caught + fields.uncaught > 0);
+        self.fields += u64::from(fields.read + fields.written > 0);
     }
 
     /// Each with its name.
@@ -92,6 +147,7 @@ impl Lists {
             ("that enter a handler", self.throws),
             ("that meet null", self.nulls),
             ("that use fields", self.fields),
+            ("of which more than 65,535 steps are taken", self.long),
         ];
         let others = others.map(|(what, count)| (what.to_string(), count));
         let all = refused.chain(answers).chain(others);

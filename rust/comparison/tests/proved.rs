@@ -1,16 +1,17 @@
 //! The proved code behind its C calls, on the cases of document 01.
 
 use comparison::orders::{inputs, Input};
-use comparison::{digest, proved};
+use comparison::{digest, lists, proved};
 use generator::builder::{case_a, lay_out, Method, Row};
-use generator::families::{self, contending, recurring, sharing, typed};
+use generator::families::{self, recurring, sharing, typed};
 use generator::rng::Rng;
-use generator::schedule::{any_state, list, schedule};
+use generator::schedule::{any_state, schedule};
 use reference::bundle::{Addr, Bundle, Instr, Verdict};
 use reference::entries::Entry;
 use reference::history::{Event, History, Numbers};
 use reference::machine::{fresh, step, State};
 use reference::met::Met;
+use reference::run::Ran;
 use reference::slips::Slip;
 use trace::{encode_state, Turn};
 
@@ -110,15 +111,69 @@ fn lists_of_case_a() {
     comes_to(&[0xF8, 0], 1, &state);
 }
 
+/// Case A with a change, and the verdict that comes of it.
+fn refusals_of_case_a() -> Vec<(Vec<u8>, Verdict)> {
+    let changed = |change: fn(&mut Method)| {
+        let mut method = case_a();
+        change(&mut method);
+        lay_out(&[method])
+    };
+    let owing = Entry::reference(0, 1, -1);
+    let rule = |address, why| Verdict::new(9, 0, address).because(why);
+    // The dip of variable 0 in row 4 is 64: behind the code come rows of nine bytes.
+    let mut deep = lay_out(&[case_a()]);
+    deep[9 * 4 + 3 * 9 + 2] = 64;
+    let mut late = case_a();
+    late.code[4] = Instr::If(Addr(9));
+    late.rows[8].variables[0] = owing;
+    vec![
+        (deep, Verdict::new(8, 0, 4)),
+        (
+            changed(|m| m.rows[0].variables[0] = Entry::Int),
+            Verdict::new(10, 0, 0),
+        ),
+        (changed(|m| m.rows[4].stack[0] = Entry::Top), rule(5, 0)),
+        (
+            changed(|m| m.rows[4].stack[0] = Entry::fresh(0)),
+            rule(4, 1),
+        ),
+        (lay_out(&[late]), rule(8, 2)),
+        (changed(|m| m.code[4] = Instr::If(Addr(9))), rule(5, 3)),
+    ]
+}
+
+/// 19 carries the whole verdict, the why that lies above its 40th bit too.
 #[test]
 fn lists_of_refused_bundles() {
-    let mut method = case_a();
-    method.code[4] = Instr::If(Addr(9));
-    let why = Verdict::new(9, 0, 5).because(3);
-    let refused = proved::run(&lay_out(&[method]), &[0; 8]);
-    assert_eq!(refused, (Err(why), [0; proved::STATE_BYTES]));
+    for (bundle, verdict) in refusals_of_case_a() {
+        let refused = proved::run(&bundle, &[0; 8]);
+        assert_eq!(refused, (Err(verdict), [0; proved::STATE_BYTES]));
+    }
     let none = proved::run(&[], &[]);
     assert_eq!(none, (Err(Verdict::new(1, 0, 0)), [0; proved::STATE_BYTES]));
+}
+
+/// push0, inc, and back again: 70,000 steps are 23,333 turns and one step more.
+#[test]
+fn a_list_of_more_steps_than_two_bytes_count() {
+    let method = Method {
+        stack_limit: 1,
+        code: vec![Instr::Push0, Instr::Inc, Instr::If(Addr(1)), Instr::Return],
+        rows: vec![
+            Row::new(&[], &[]),
+            Row::new(&[], &[Entry::Int]),
+            Row::new(&[], &[Entry::Int]),
+            Row::new(&[], &[]),
+        ],
+        ..Method::default()
+    };
+    let mut state = State::EMPTY;
+    state.objects = 1;
+    let thread = &mut state.threads[0];
+    (thread.live, thread.address, thread.depth) = (true, 2, 1);
+    let (told, bytes) = proved::run(&lay_out(&[method]), &[0; 70_000]);
+    assert_eq!(told, Ok(70_000));
+    assert_eq!(bytes.as_slice(), encode_state(&state));
 }
 
 /// A failed new finds its handler, which drops what was thrown and returns.
@@ -204,31 +259,26 @@ fn a_slipped_machine_differs_from_the_proved_one() {
     }
 }
 
-/// Whether a list comes to something else.
-fn lists_otherwise(slip: Slip, seed: u64) -> bool {
-    let mut rng = Rng::new(seed);
-    let b = match seed % 2 {
-        0 => contending::contending(&mut rng).lay_out(),
-        _ => families::bundle(seed).1,
-    };
-    let turns = schedule(&b, &fresh(&b).1, seed, 60);
-    let list = list(&mut rng, &turns);
-    let ran = slip.run(&b, &list);
+/// What one side says of a list, and the bytes of the state.
+fn told(ran: &Ran) -> (Result<u64, Verdict>, Vec<u8>) {
     let told = match ran.verdict.number {
         0 => Ok(ran.number),
         _ => Err(ran.verdict),
     };
-    let (proved, state) = proved::run(&b, &list);
-    proved != told || state.as_slice() != encode_state(&ran.state)
+    (told, encode_state(&ran.state))
 }
 
 #[test]
 fn a_slipped_list_differs_from_the_proved_one() {
-    for slip in Slip::LISTS {
-        let differing = (0..400).filter(|&seed| lists_otherwise(slip, seed));
-        let differing = differing.count();
-        assert!(differing >= 10, "{slip:?}: {differing}");
+    let mut differing = Slip::LISTS.map(|slip| (slip, 0));
+    for (b, list) in (0..800).map(lists::input) {
+        let (number, state) = proved::run(&b, &list);
+        let proved = (number, state.to_vec());
+        for (slip, count) in &mut differing {
+            *count += usize::from(told(&slip.run(&b, &list)) != proved);
+        }
     }
+    assert!(differing.iter().all(|&(_, n)| n >= 10), "{differing:?}");
 }
 
 /// Whether a step of a run meets something else.

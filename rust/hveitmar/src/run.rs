@@ -97,7 +97,6 @@ mod tests {
     #[test]
     fn numbers_are_read_as_they_are_written() {
         let no_trailer = Err(RunRefusal::Bundle(Refusal::Trailer));
-        let rule = 9 | 3 << 8 | 256 << 16 | 2 << 32;
         let told = [
             (0, Ok(0), ""),
             (7 << 8, Ok(7), ""),
@@ -114,9 +113,22 @@ mod tests {
             assert_eq!(read, wanted);
             assert_eq!(read.err().map_or("".to_string(), |e| e.to_string()), text);
         }
-        let refusal = RunRefusal::unpacked(19 | rule << 8).expect("an answer");
-        let line = "refused 19 verdict 9 class 3 address 256 why 2";
-        assert_eq!(refusal.expect_err("a refusal").to_string(), line);
+    }
+
+    /// The verdict lies above the low byte, and its why above bit 40.
+    #[test]
+    fn whys_are_read() {
+        let told = |why: u64| {
+            let rule = 9 | 3 << 8 | 256 << 16 | why << 32;
+            RunRefusal::unpacked(19 | rule << 8).map(|read| read.expect_err("a refusal"))
+        };
+        for why in 0..=3 {
+            let line = format!("refused 19 verdict 9 class 3 address 256 why {why}");
+            assert_eq!(told(why).expect("an answer").to_string(), line);
+        }
+        for stray in [4, 255, 1 << 8, 1 << 23] {
+            assert_eq!(told(stray), None);
+        }
     }
 
     #[test]

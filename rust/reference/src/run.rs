@@ -70,12 +70,41 @@ fn number<L: Law>(list: &[u8], mut step: impl FnMut(usize, bool) -> u8) -> u64 {
         Some((_, rest)) if L::slips(Slip::LastStepLeftOut) => rest,
         _ => list,
     };
-    let steps = list.iter().filter(|&&byte| {
+    let mut number = 0;
+    for &byte in list {
         let (thread, fails) = turn::<L>(byte);
         let given = step(thread, fails);
-        given <= answer::UNCAUGHT || L::slips(Slip::CountsWaits) && given == answer::HELD
-    });
-    steps.count() as u64
+        number += u64::from(counts::<L>(given));
+        if stops::<L>(given) {
+            break;
+        }
+    }
+    match L::slips(Slip::NumberOfTwoBytes) {
+        true => number & 0xFFFF,
+        false => number,
+    }
+}
+
+fn counts<L: Law>(given: u8) -> bool {
+    match given {
+        answer::WENT_ON => true,
+        answer::RETURNED => !L::slips(Slip::ReturnsUncounted),
+        answer::UNCAUGHT => !L::slips(Slip::UncaughtUncounted),
+        answer::HELD => L::slips(Slip::CountsWaits),
+        answer::NO_THREAD_FREE => L::slips(Slip::CountsFullStarts),
+        _ => false,
+    }
+}
+
+/// Whether the rest of the list is left out: never, by the law.
+fn stops<L: Law>(given: u8) -> bool {
+    L::slips(match given {
+        answer::RETURNED | answer::UNCAUGHT => Slip::StopsAtEnd,
+        answer::HELD => Slip::StopsAtWait,
+        answer::NO_THREAD_FREE => Slip::StopsAtFullStart,
+        answer::NOT_LIVE => Slip::StopsAtNotLive,
+        _ => return false,
+    })
 }
 
 /// A schedule byte: the low three bits are the thread, the top bit says that
@@ -85,11 +114,12 @@ fn turn<L: Law>(byte: u8) -> (usize, bool) {
         true => byte & 0x0F,
         false => byte & 0x07,
     };
-    let fails = match L::slips(Slip::BitSixFails) {
-        true => byte & 0x40,
-        false => byte & 0x80,
+    let fails = match () {
+        () if L::slips(Slip::BitSixFails) => byte & 0x40 != 0,
+        () if L::slips(Slip::FailsAbove128) => byte > 0x80,
+        () => byte & 0x80 != 0,
     };
-    (usize::from(thread), fails != 0)
+    (usize::from(thread), fails)
 }
 
 /// The class of thread 0 of a fresh machine.

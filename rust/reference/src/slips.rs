@@ -364,10 +364,28 @@ slips! {
     lists {
         /// A step that answers 3 counts.
         CountsWaits,
+        /// A step that answers 4 counts.
+        CountsFullStarts,
+        /// A step that answers 1 doesn't count.
+        ReturnsUncounted,
+        /// A step that answers 2 doesn't count.
+        UncaughtUncounted,
+        /// The list is left at the first 3.
+        StopsAtWait,
+        /// The list is left at the first 4.
+        StopsAtFullStart,
+        /// The list is left at the first 5.
+        StopsAtNotLive,
+        /// The list is left where a thread ends.
+        StopsAtEnd,
+        /// The number is cut to 16 bits.
+        NumberOfTwoBytes,
         /// The thread is told by the low four bits.
         ThreadOfFourBits,
         /// Bit 6 says that new fails, not bit 7.
         BitSixFails,
+        /// A byte says that new fails where it is above 128, not at 128.
+        FailsAbove128,
         /// The last step is left out.
         LastStepLeftOut,
         /// A bundle that is refused by 8, 9 or 10 is run.

@@ -164,17 +164,64 @@ fn the_top_bit_says_that_new_fails() {
     assert_eq!(run(&b, &[0, 0x80, 0x80]), run(&b, &[0; 3]));
 }
 
+/// push0, inc, and back again, for ever.
+#[test]
+fn more_steps_than_two_bytes_count() {
+    let (top, int) = (Entry::Top, [Entry::Int]);
+    let lines: [(Instr, Entry, &[Entry]); 4] = [
+        (Instr::Push0, top, &[]),
+        (Instr::Inc, top, &int),
+        (Instr::If(Addr(1)), top, &int),
+        (Instr::Return, top, &[]),
+    ];
+    let b = lay_out(&[method(&[], 1, &lines)]);
+    assert_eq!(verify(&b), Verdict::new(0, 1, 0));
+    // 23,333 turns and the push0 of one more.
+    let ran = run(&b, &[0; 70_000]);
+    let mut state = State::EMPTY;
+    state.objects = 1;
+    let thread = &mut state.threads[0];
+    (thread.live, thread.address, thread.depth) = (true, 2, 1);
+    assert_eq!((ran.number, ran.state), (70_000, state));
+    let slipped = Slip::NumberOfTwoBytes.run(&b, &[0; 70_000]);
+    assert_eq!(slipped.number, 70_000 - 65_536);
+}
+
+#[test]
+fn a_waiter_goes_on_when_the_holder_has_ended() {
+    let b = two_that_want_one_lock();
+    // Thread 1 takes the lock, thread 0 waits (3) twice; thread 1 gives it back
+    // and returns (1); thread 0 takes it, gives it back and returns (1).
+    let list = [0, 0, 0, 0, 0, 1, 0, 0, 1, 1, 0, 0, 0];
+    let ran = run(&b, &list);
+    let mut state = State::EMPTY;
+    (state.objects, state.classes[2]) = (3, 1);
+    assert_eq!((ran.number, ran.state), (11, state));
+    let slipped = |slip: Slip| slip.run(&b, &list).number;
+    assert_eq!(slipped(Slip::StopsAtWait), 6);
+    assert_eq!(slipped(Slip::StopsAtEnd), 8);
+    assert_eq!(slipped(Slip::ReturnsUncounted), 9);
+}
+
 #[test]
 fn a_refused_bundle_is_not_run() {
-    let mut b = case_a();
-    b.code[4] = Instr::If(Addr(9));
     let refused = |verdict| Ran {
         verdict,
         number: 0,
         state: State::EMPTY,
     };
+    let mut late = case_a();
+    late.code[4] = Instr::If(Addr(9));
     let why = Verdict::new(9, 0, 5).because(3);
-    assert_eq!(run(&lay_out(&[b]), &[0; 4]), refused(why));
+    assert_eq!(run(&lay_out(&[late]), &[0; 4]), refused(why));
+    // The dip of variable 0 in row 4 is 64: behind the code come rows of nine bytes.
+    let mut deep = case_a_bytes();
+    deep[9 * 4 + 3 * 9 + 2] = 64;
+    assert_eq!(run(&deep, &[0; 4]), refused(Verdict::new(8, 0, 4)));
+    let mut begun = case_a();
+    begun.rows[0].variables[0] = Entry::Int;
+    let first = Verdict::new(10, 0, 0);
+    assert_eq!(run(&lay_out(&[begun]), &[0; 4]), refused(first));
     assert_eq!(run(&[], &[0; 4]), refused(Verdict::new(1, 0, 0)));
     assert_eq!(run(&[0; 8], &[]), refused(Verdict::new(2, 0, 0)));
 }
@@ -237,41 +284,27 @@ fn a_list_comes_to_what_its_steps_do() {
 
 #[test]
 fn slips() {
+    let a = case_a_bytes();
+    let told = |slip: Slip, b: &[u8], list: &[u8]| (number(b, list), slip.run(b, list).number);
     let waiting = [0, 0, 0, 0, 0, 1, 0, 0];
     let b = two_that_want_one_lock();
-    assert_eq!(
-        (
-            number(&b, &waiting),
-            Slip::CountsWaits.run(&b, &waiting).number
-        ),
-        (6, 8)
-    );
-    let a = case_a_bytes();
-    let slipped = |slip: Slip, list: &[u8]| slip.run(&a, list).number;
-    assert_eq!(
-        (
-            number(&a, &[0, 8]),
-            slipped(Slip::ThreadOfFourBits, &[0, 8])
-        ),
-        (2, 1)
-    );
-    assert_eq!(
-        (
-            number(&a, &[0x40; 2]),
-            slipped(Slip::BitSixFails, &[0x40; 2])
-        ),
-        (2, 1)
-    );
-    assert_eq!(
-        (number(&a, &[0; 2]), slipped(Slip::LastStepLeftOut, &[0; 2])),
-        (2, 1)
-    );
+    assert_eq!(told(Slip::CountsWaits, &b, &waiting), (6, 8));
+    assert_eq!(told(Slip::ThreadOfFourBits, &a, &[0, 8]), (2, 1));
+    assert_eq!(told(Slip::BitSixFails, &a, &[0x40; 2]), (2, 1));
+    assert_eq!(told(Slip::FailsAbove128, &a, &[0x80; 2]), (1, 2));
+    assert_eq!(told(Slip::FailsAbove128, &a, &[0x88; 2]), (1, 1));
+    assert_eq!(told(Slip::UncaughtUncounted, &a, &[0x80; 2]), (1, 0));
+    assert_eq!(told(Slip::StopsAtNotLive, &a, &[0, 1, 0]), (2, 1));
+    assert_eq!(told(Slip::LastStepLeftOut, &a, &[0; 2]), (2, 1));
+    // All numbers are taken, one more start is tried, and thread 0 returns.
+    let mut all: Vec<u8> = (0..8).flat_map(|thread| [thread, thread]).collect();
+    all.push(0);
+    assert_eq!(told(Slip::CountsFullStarts, &one_more(), &all), (16, 17));
+    assert_eq!(told(Slip::StopsAtFullStart, &one_more(), &all), (16, 15));
     let mut late = case_a();
     late.code[4] = Instr::If(Addr(9));
     let late = lay_out(&[late]);
-    assert_eq!(Slip::RefusedIsRun.run(&late, &[0; 3]).number, 3);
-    assert_eq!(
-        Slip::RefusedStateIsFresh.run(&late, &[0; 3]).state,
-        fresh(&late).1
-    );
+    assert_eq!(told(Slip::RefusedIsRun, &late, &[0; 3]), (0, 3));
+    let slipped = Slip::RefusedStateIsFresh.run(&late, &[0; 3]);
+    assert_eq!(slipped.state, fresh(&late).1);
 }

@@ -14,11 +14,12 @@
 //! that come to something else. For a slip of the reader of usages: a text that
 //! it answers otherwise.
 
+use comparison::lists;
 use comparison::orders::{inputs, Input};
 use comparison::progress::{next_answers, stands_still};
-use generator::families::{self, contending, nesting, recurring, sharing, typed};
+use generator::families::{nesting, recurring, sharing, typed};
 use generator::rng::Rng;
-use generator::schedule::{any_state, list, schedule, Scheduler};
+use generator::schedule::{any_state, Scheduler};
 use generator::texts::text;
 use reference::bundle::Bundle;
 use reference::history::History;
@@ -36,7 +37,6 @@ const BUNDLES: u64 = 20_000;
 const SCHEDULES: u64 = 20;
 const STEPS: usize = 400;
 const HELD_STEPS: usize = 20;
-const LIST_STEPS: usize = 100;
 const TEXTS: u64 = 20_000;
 
 fn main() -> ExitCode {
@@ -227,13 +227,7 @@ fn misordered(slip: Slip, seed: u64) -> Option<String> {
 
 /// A list that comes to something else.
 fn misrun(slip: Slip, seed: u64) -> Option<String> {
-    let mut rng = Rng::new(seed);
-    let b = match seed % 2 {
-        0 => contending::contending(&mut rng).lay_out(),
-        _ => families::bundle(seed).1,
-    };
-    let turns = schedule(&b, &fresh(&b).1, seed, LIST_STEPS);
-    let list = list(&mut rng, &turns);
+    let (b, list) = lists::input(seed);
     let (other, truth) = (slip.run(&b, &list), run(&b, &list));
     let told = |ran: &Ran| match ran.verdict.number {
         0 => format!("ran {}", ran.number),
