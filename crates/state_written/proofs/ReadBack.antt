@@ -1,32 +1,32 @@
 -- THEOREM `reads-back`: what is written is read back. A place, a thread and a state are read by where their bytes stand among the bytes g.
 use mathlib.Core.List.{List, [], _∷_, _++_}
 use mathlib.Core.Bool.{Bool, true, false, cond}
-use mathlib.Core.Path.{_≡_, refl, sym, ap, _∙_}
+use mathlib.Core.Path.{_≡_, refl, sym, _∙_}
 use Prim.Native.Nat.{ℕ, zero, suc, _+_, _*_, _-_, _/_, _%_, _<_, _≤_}
 use lib.Arith.{mod-mul}
 use lib.Dec.{leb, eqb}
 use lib.IntN.{pos, negsuc}
 use lib.ListN.{length, getD, replicate, length-append, length-replicate, List·getD-append}
 use lib.Seq.{getD-append-add, ext-getD}
-use native.Mathlib.Nat.{div-add-mod', mod-eq-of-lt}
+use native.Mathlib.Nat.{mod-eq-of-lt}
 use native.Mathlib.Omega.{arith}
 use native.Mathlib.Decide.{ℕ-discrete, decLt}
 use borrow.Author.Tests.{lt-ltb, le-ltb, eq-eqb}
 use Rattle.ground.specs.Bytes.{at, be16, quad}
-use Rattle.ground.specs.Bounded.{allBelow, setBelow}
+use Rattle.ground.specs.Bounded.{setBelow}
 use Rattle.ground.specs.Lists.{each}
 use Rattle.ground.proofs.Bounded.{all-intro}
 use Rattle.ground.proofs.Writes.{set-length, set-below}
 use Rattle.values.specs.declared.Value.{Value}
 use Rattle.values.specs.declared.Value.the-variants.{Int, Ref, Null}
 use Rattle.values.specs.declared.Slot.{Slot}
-use Rattle.values.specs.Values.{slot, zeroSlot, numberOf}
+use Rattle.values.specs.Values.{slot, zeroSlot}
 use Rattle.threads.specs.declared.Thread.{Thread}
 use Rattle.threads.specs.Threads.{idle}
 use Rattle.state.specs.declared.State.{State}
 use Rattle.state_bytes.specs.Format.{isPlace, placeOf, isPlaceAt, placeAt, isThread, threadOf, isThreadAt, threadsAt, countAt, classAt, wordAt, isState, stateOf}
 use Rattle.state_written.specs.Written.{halves, quadBytes, placeBytes, placeBytesAt, threadBytes, threadBytesAt, countBytesAt, classBytesAt, wordBytesAt, stateBytes}
-use Rattle.state_written.specs.ReadBack.{ValueFits, PlacesFit, NumbersFit, ThreadFits, StateFits, ReadsBack}
+use Rattle.state_written.specs.ReadBack.{ValueFits, PlacesFit, ThreadFits, StateFits, ReadsBack}
 use Rattle.state_written.proofs.Writing.{long-1, long-2, long-4, long-5, long-165, thread-long, long-A, long-AB, long-ABO, long-ABOC, long-ABOCD, bytes-long}
 
 -- the bytes l stand in g from p on
