@@ -6,9 +6,10 @@ use Rattle.threads.specs.Threads.{topped, pushed, popped, stored, ended, starte
 use Rattle.held.specs.Word.{bit, setBit, clearBit, marked}
 use Rattle.state.specs.State.{fieldsWith, withObject, othersFree, holdsNothing, lowestFree}
 use Rattle.belongs.specs.Belongs.{placesRefer, placedOk, liveOk, threadOk, threadsOk, firstOk, objectsOk, fieldsRefer, fieldsOk, countOk, threadCountsOk, countsOk, wordAgrees, wordsAgree, soleHolder, soleHolders, stateOk}
-use Rattle.machine.specs.Answers.{unlessDrawn}
-use Rattle.machine.specs.Faults.{isArgument, argumentsOk, mayBeObject, isFieldValue}
-use Rattle.machine.specs.Machine.{freshOf, runOf, stepOf}
+use Rattle.turns.specs.Answers.{unlessDrawn}
+use Rattle.turns.specs.Faults.{isArgument, argumentsOk, mayBeObject, isFieldValue}
+use Rattle.turns.specs.Exec.{runOf}
+use Rattle.machine.specs.Machine.{freshOf, stepOf}
 use Rattle.machine.specs.Runs.{Step}
 use Rattle.history.specs.History.{historyFrom}
 use Rattle.cases.proofs.Judgement.{judgement}

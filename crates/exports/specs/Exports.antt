@@ -9,7 +9,7 @@ use Rattle.bundle.specs.Container.{classAt}
 use Rattle.structure.specs.declared.Verdict.{Verdict}
 use Rattle.structure.specs.Structure.{recordOf}
 use Rattle.state_bytes.specs.Format.{isState, stateOf}
-use Rattle.machine.specs.declared.Stepped.{Stepped}
+use Rattle.turns.specs.declared.Stepped.{Stepped}
 use Rattle.machine.specs.Machine.{freshOf, stepOf}
 use Rattle.holding.specs.Question.{heldOf}
 use Rattle.history.specs.declared.Object.{Object}

@@ -22,10 +22,10 @@ use Rattle.threads.specs.Threads.{withAt, withStack, varOf, pushed, popped, top
 use Rattle.threads.specs.Threads as threads
 use Rattle.state.specs.declared.State.{State}
 use Rattle.state.specs.State.{threadAt, countOf, withThread, withCount, withObject}
-use Rattle.machine.specs.declared.Stepped.{Stepped}
-use Rattle.machine.specs.Answers.{test}
-use Rattle.machine.specs.Faults.{has, room, throwFault, pushFault, newFails}
-use Rattle.machine.specs.Moves as moves
+use Rattle.turns.specs.declared.Stepped.{Stepped}
+use Rattle.turns.specs.Answers.{test}
+use Rattle.turns.specs.Faults.{has, room, throwFault, pushFault, newFails}
+use Rattle.turns.specs.Moves as moves
 use Rattle.belongs.specs.Belongs.{stateOk}
 use Rattle.belongs.proofs.Belongs.{belongs-elim}
 use Rattle.machine.specs.Machine.{readable, stepOf}

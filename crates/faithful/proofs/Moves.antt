@@ -12,13 +12,14 @@ use Rattle.bundle.specs.Program.{programOf}
 use Rattle.threads.specs.declared.Thread.{Thread}
 use Rattle.state.specs.declared.State.{State}
 use Rattle.state.specs.State.{threadAt}
-use Rattle.machine.specs.declared.Stepped.{Stepped}
-use Rattle.machine.specs.Answers.{test, unlessDrawn}
-use Rattle.machine.specs.Faults.{faultOf}
-use Rattle.machine.specs.Waits.{waitOf}
-use Rattle.machine.specs.Moves.{moveOf}
+use Rattle.turns.specs.declared.Stepped.{Stepped}
+use Rattle.turns.specs.Answers.{test, unlessDrawn}
+use Rattle.turns.specs.Faults.{faultOf}
+use Rattle.turns.specs.Waits.{waitOf}
+use Rattle.turns.specs.Moves.{moveOf}
 use Rattle.belongs.specs.Belongs.{stateOk}
-use Rattle.machine.specs.Machine.{readable, execOf, runOf, stepOf}
+use Rattle.turns.specs.Exec.{execOf, runOf}
+use Rattle.machine.specs.Machine.{readable, stepOf}
 use Rattle.machine.proofs.Refusals.{Moving, methodHere, instructionHere, step-by}
 use Rattle.faithful.specs.Faithful.{steps}
 

@@ -12,7 +12,7 @@ use Rattle.values.specs.declared.Slot.{Slot}
 use Rattle.values.specs.Values.{zeroSlot}
 use Rattle.threads.specs.declared.Thread.{Thread}
 use Rattle.threads.specs.Threads.{withStack, pushed, popped}
-use Rattle.machine.specs.Moves.{caught}
+use Rattle.turns.specs.Moves.{caught}
 use Rattle.faithful.specs.Frames.{topOf, restOf}
 use Rattle.faithful.specs.Faithful.{topFirst}
 

@@ -14,7 +14,7 @@ use Rattle.values.specs.Values.{zeroSlot, isInt}
 use Rattle.threads.specs.Threads.{varOf}
 use Rattle.state.specs.declared.State.{State}
 use Rattle.state.specs.State.{threadAt, countOf}
-use Rattle.machine.specs.declared.Stepped.{Stepped}
+use Rattle.turns.specs.declared.Stepped.{Stepped}
 use Rattle.belongs.specs.Belongs.{stateOk}
 use Rattle.machine.specs.Machine.{readable, stepOf}
 use Rattle.java.specs.declared.Java.the-variants.{Iinc}

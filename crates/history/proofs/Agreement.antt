@@ -16,7 +16,7 @@ use Rattle.threads.specs.declared.Thread.{Thread}
 use Rattle.threads.specs.Threads.{idle}
 use Rattle.state.specs.declared.State.{State}
 use Rattle.state.specs.State.{threadAt, countOf, emptyState}
-use Rattle.machine.specs.Moves.{firstFields}
+use Rattle.turns.specs.Moves.{firstFields}
 use Rattle.machine.specs.Machine.{mainThread, freshState, readable, freshOf}
 use Rattle.machine.specs.Runs.{Step, after, run, reached}
 use Rattle.history.specs.Event.{Event}

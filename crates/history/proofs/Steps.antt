@@ -21,11 +21,11 @@ use Rattle.threads.specs.Threads.{idle, fromTop, topOf, varOf, withAt, topped, 
 use Rattle.state.specs.declared.State.{State}
 use Rattle.state.specs.State.{threadAt, countOf, withThread, withCount, withField, withObject, lowestFree}
 use Rattle.belongs.proofs.Belongs.{Placed, Belongs, refers-object}
-use Rattle.machine.specs.declared.Stepped.{Stepped}
-use Rattle.machine.specs.Answers.{refused}
-use Rattle.machine.specs.Faults.{lockOf, enterFault, exitFault, newFails, faultOf}
-use Rattle.machine.specs.Waits.{startWait, waitOf}
-use Rattle.machine.specs.Moves.{wentTo, counted, endMove, caught, throwMove, enterMove, exitMove, firstFields, newMove, getMove, putMove, startMove, ifMove, moveOf}
+use Rattle.turns.specs.declared.Stepped.{Stepped}
+use Rattle.turns.specs.Answers.{refused}
+use Rattle.turns.specs.Faults.{lockOf, enterFault, exitFault, newFails, faultOf}
+use Rattle.turns.specs.Waits.{startWait, waitOf}
+use Rattle.turns.specs.Moves.{wentTo, counted, endMove, caught, throwMove, enterMove, exitMove, firstFields, newMove, getMove, putMove, startMove, ifMove, moveOf}
 use Rattle.machine.specs.Runs.{Step, after}
 use Rattle.ground.proofs.Chain.{tested}
 use Rattle.machine.proofs.Refusals.{either, methodHere, instructionHere, Moving, step-by}

@@ -17,9 +17,10 @@ use Rattle.state.specs.declared.State.{State}
 use Rattle.state.specs.State.{threadAt, countOf, wordOf}
 use Rattle.belongs.specs.Belongs.{stateOk}
 use Rattle.belongs.proofs.Belongs.{belongs-elim}
-use Rattle.machine.specs.declared.Stepped.{Stepped}
-use Rattle.machine.specs.Answers.{unless}
-use Rattle.machine.specs.Machine.{readable, freshOf, runOf, stepOf}
+use Rattle.turns.specs.declared.Stepped.{Stepped}
+use Rattle.turns.specs.Answers.{unless}
+use Rattle.turns.specs.Exec.{runOf}
+use Rattle.machine.specs.Machine.{readable, freshOf, stepOf}
 use Rattle.machine.specs.Runs.{Step, after, run, reached}
 use Rattle.machine.proofs.Changes.{Sized}
 use Rattle.machine.proofs.Stays.{step-belongs}

@@ -20,7 +20,7 @@ use Rattle.state.specs.declared.State.{State}
 use Rattle.state.specs.State.{threadAt, countOf, wordOf, withThread, withCount, fieldOf, withField, fieldsWith}
 use Rattle.belongs.specs.Belongs.{Worded}
 use Rattle.belongs.proofs.Belongs.{Placed, Counted, Belongs}
-use Rattle.machine.specs.Moves.{firstField, firstFields}
+use Rattle.turns.specs.Moves.{firstField, firstFields}
 use Rattle.machine.proofs.Writes.{write-or, write-in, fields-in}
 use Rattle.machine.proofs.Moved.{refers-more, placed-more}
 

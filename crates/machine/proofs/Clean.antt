@@ -25,10 +25,10 @@ use Rattle.threads.specs.Threads.{idle, fromTop, topOf, varOf, pushed, popped, 
 use Rattle.state.specs.declared.State.{State}
 use Rattle.state.specs.State.{threadAt, classOf, withThread, withCount, fieldOf, withField, withObject, emptyState, notLive, lowestFree}
 use Rattle.belongs.proofs.Belongs.{Placed, Belongs}
-use Rattle.machine.specs.declared.Stepped.{Stepped}
-use Rattle.machine.specs.Faults.{lockOf, intFault, newFails, isFieldValue, getFault, putFault, faultOf}
-use Rattle.machine.specs.Waits.{startWait, waitOf}
-use Rattle.machine.specs.Moves.{wentTo, wentOn, incMove, storeMove, counted, endMove, throwMove, enterMove, firstFields, makeMove, getMove, putMove, startMove, moveOf}
+use Rattle.turns.specs.declared.Stepped.{Stepped}
+use Rattle.turns.specs.Faults.{lockOf, intFault, newFails, isFieldValue, getFault, putFault, faultOf}
+use Rattle.turns.specs.Waits.{startWait, waitOf}
+use Rattle.turns.specs.Moves.{wentTo, wentOn, incMove, storeMove, counted, endMove, throwMove, enterMove, firstFields, makeMove, getMove, putMove, startMove, moveOf}
 use Rattle.machine.specs.Machine.{mainThread, stepOf, freshOf}
 use Rattle.machine.specs.Runs.{Step, after, run, reached}
 use Rattle.machine.proofs.Refusals.{either, refuses, methodHere, instructionHere, Moving, step-by}

@@ -15,9 +15,9 @@ use Rattle.values.specs.Values.{isNull}
 use Rattle.threads.specs.declared.Thread.{Thread}
 use Rattle.threads.specs.Threads.{fromTop, topOf, varOf}
 use Rattle.state.specs.declared.State.{State}
-use Rattle.machine.specs.Answers.{test}
-use Rattle.machine.specs.Faults.{topFault, intFault, pushFault, endFault, throwFault, newFails, faultOf}
-use Rattle.machine.specs.Waits.{waitOf}
+use Rattle.turns.specs.Answers.{test}
+use Rattle.turns.specs.Faults.{topFault, intFault, pushFault, endFault, throwFault, newFails, faultOf}
+use Rattle.turns.specs.Waits.{waitOf}
 
 pub record Drawn (n : ℕ) : Type 0 where
   pub high : n ≢ 0 → 3 ≤ n

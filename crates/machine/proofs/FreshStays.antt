@@ -16,7 +16,7 @@ use Rattle.threads.specs.Threads.{idle}
 use Rattle.state.specs.State.{threadAt, countOf, fieldOf, fieldsWith, withObject, emptyState}
 use Rattle.belongs.specs.Belongs.{stateOk}
 use Rattle.belongs.proofs.Belongs.{Placed, Belongs, belongs-intro}
-use Rattle.machine.specs.Moves.{firstFields}
+use Rattle.turns.specs.Moves.{firstFields}
 use Rattle.machine.specs.Machine.{mainThread, freshState, readable, freshOf}
 use Rattle.machine.proofs.Ready.{formed}
 use Rattle.machine.proofs.Writes.{fields-in}

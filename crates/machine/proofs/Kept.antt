@@ -15,9 +15,9 @@ use Rattle.threads.specs.declared.Thread.{Thread}
 use Rattle.threads.specs.Threads.{fromTop, topOf, varOf}
 use Rattle.state.specs.declared.State.{State}
 use Rattle.state.specs.State.{threadAt}
-use Rattle.machine.specs.declared.Stepped.{Stepped}
-use Rattle.machine.specs.Faults.{newFails}
-use Rattle.machine.specs.Moves.{throwMove, moveOf}
+use Rattle.turns.specs.declared.Stepped.{Stepped}
+use Rattle.turns.specs.Faults.{newFails}
+use Rattle.turns.specs.Moves.{throwMove, moveOf}
 use Rattle.machine.specs.Machine.{stepOf}
 use Rattle.machine.proofs.Refusals.{either, methodHere, instructionHere, step-by}
 

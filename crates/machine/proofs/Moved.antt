@@ -16,7 +16,7 @@ use Rattle.values.specs.Values.{zeroSlot, isIntValue, isInt, isNullValue, isNul
 use Rattle.threads.specs.declared.Thread.{Thread}
 use Rattle.threads.specs.Threads.{varOf, fromTop, withAt, topped, pushed, popped, stored}
 use Rattle.belongs.proofs.Belongs.{Placed, refers-object}
-use Rattle.machine.specs.Faults.{mayBeObject}
+use Rattle.turns.specs.Faults.{mayBeObject}
 use Rattle.machine.proofs.Writes.{write-or, write-in}
 
 pub refers-inc : (objects : ℕ) (x : Slot) → refers objects x ≡ true → refers objects (incSlot x) ≡ true

@@ -15,12 +15,13 @@ use Rattle.structure.proofs.Structured.{WellFormed}
 use Rattle.state.specs.declared.State.{State}
 use Rattle.state.specs.State.{threadAt}
 use Rattle.belongs.proofs.Belongs.{Belongs, belongs-elim}
-use Rattle.machine.specs.declared.Stepped.{Stepped}
-use Rattle.machine.specs.Answers.{refused, unless, unlessDrawn}
-use Rattle.machine.specs.Faults.{faultOf}
-use Rattle.machine.specs.Waits.{waitOf}
-use Rattle.machine.specs.Moves.{moveOf}
-use Rattle.machine.specs.Machine.{runOf, stepOf}
+use Rattle.turns.specs.declared.Stepped.{Stepped}
+use Rattle.turns.specs.Answers.{refused, unless, unlessDrawn}
+use Rattle.turns.specs.Faults.{faultOf}
+use Rattle.turns.specs.Waits.{waitOf}
+use Rattle.turns.specs.Moves.{moveOf}
+use Rattle.turns.specs.Exec.{runOf}
+use Rattle.machine.specs.Machine.{stepOf}
 use Rattle.machine.proofs.Ready.{formed}
 use Rattle.machine.proofs.Drawn.{fault-drawn, wait-drawn}
 

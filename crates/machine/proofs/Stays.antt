@@ -28,10 +28,10 @@ use Rattle.state.specs.declared.State.{State}
 use Rattle.state.specs.State.{threadAt, countOf, withThread, withCount, withField, withObject, freeOf, othersFree, isFree, holdsNothing, lowestFree}
 use Rattle.belongs.specs.Belongs.{stateOk}
 use Rattle.belongs.proofs.Belongs.{Placed, Belongs, refers-object, belongs-elim, belongs-intro}
-use Rattle.machine.specs.declared.Stepped.{Stepped}
-use Rattle.machine.specs.Faults.{lockOf, topFault, intFault, pushFault, enterFault, exitFault, endFault, throwFault, athrowFault, newFails, newFault, startFault, getFault, putFault, faultOf}
-use Rattle.machine.specs.Waits.{enterWait, waitOf}
-use Rattle.machine.specs.Moves.{wentTo, wentOn, incMove, storeMove, ifMove, counted, enterMove, exitMove, endMove, caught, throwMove, failMove, firstFields, makeMove, newMove, getMove, putMove, startMove, moveOf}
+use Rattle.turns.specs.declared.Stepped.{Stepped}
+use Rattle.turns.specs.Faults.{lockOf, topFault, intFault, pushFault, enterFault, exitFault, endFault, throwFault, athrowFault, newFails, newFault, startFault, getFault, putFault, faultOf}
+use Rattle.turns.specs.Waits.{enterWait, waitOf}
+use Rattle.turns.specs.Moves.{wentTo, wentOn, incMove, storeMove, ifMove, counted, enterMove, exitMove, endMove, caught, throwMove, failMove, firstFields, makeMove, newMove, getMove, putMove, startMove, moveOf}
 use Rattle.machine.specs.Machine.{stepOf}
 use Rattle.machine.proofs.Refusals.{either, methodHere, instructionHere, Moving, step-by}
 use Rattle.machine.proofs.Moved.{refers-inc, placed-more, a-ref, owner, Moved, unmoved, entry-refers, moved-topped, moved-pushed, moved-popped, moved-stored, moved-placed}

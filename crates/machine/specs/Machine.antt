@@ -5,19 +5,17 @@ use Prim.Native.Nat.{ℕ}
 use lib.Dec.{ltb, eqb}
 use lib.ListN.{replicate}
 use Rattle.instructions.specs.Table.{addr}
-use Rattle.instructions.specs.declared.Instruction.{Instruction}
-use Rattle.bundle.specs.Program.{Method, Program, programOf}
+use Rattle.bundle.specs.Program.{Program, programOf}
 use Rattle.structure.specs.Structure.{structureOf}
 use Rattle.values.specs.Values.{zeroSlot}
 use Rattle.threads.specs.declared.Thread.{Thread}
 use Rattle.state.specs.declared.State.{State}
 use Rattle.state.specs.State.{threadAt, withThread, withObject, emptyState}
 use Rattle.belongs.specs.Belongs.{stateOk}
-use Rattle.machine.specs.declared.Stepped.{Stepped}
-use Rattle.machine.specs.Answers.{unless, unlessDrawn}
-use Rattle.machine.specs.Faults.{faultOf}
-use Rattle.machine.specs.Waits.{waitOf}
-use Rattle.machine.specs.Moves.{firstFields, moveOf}
+use Rattle.turns.specs.declared.Stepped.{Stepped}
+use Rattle.turns.specs.Answers.{unless}
+use Rattle.turns.specs.Moves.{firstFields}
+use Rattle.turns.specs.Exec.{runOf}
 
 -- thread 0 live at address 1 of class 0
 abbrev pub mainThread : Thread
@@ -34,17 +32,6 @@ readable b = eqb (structureOf b .number) 0
 -- 0 with the fresh machine; 17 with no live thread, no object, and all else 0
 unfoldable pub freshOf : List ℕ → Stepped
 freshOf b = unless (readable b) 17 emptyState (record { answer = 0; state = freshState (programOf b) })
-
--- an instruction of thread i, which is t and stands in the method m: faults by number, then 3 or 4, and then its move
-abbrev pub execOf : Program → State → ℕ → Thread → Method → Bool → Instruction → Stepped
-execOf P s i t m fails x =
-    unlessDrawn (faultOf P s i t m fails x) s
-    (unlessDrawn (waitOf s i t x) s
-    (moveOf P s i t m fails x))
-
--- the instruction at the thread's address of its class
-unfoldable pub runOf : Program → State → ℕ → Thread → Bool → Stepped
-runOf P s i t fails = execOf P s i t (P .method (t .class)) fails (P .method (t .class) .instruction (t .at .0))
 
 -- the order: 17, 18, 5, faults by number, then 3 or 4
 unfoldable pub stepOf : List ℕ → State → ℕ → Bool → Stepped

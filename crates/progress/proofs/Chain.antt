@@ -25,7 +25,7 @@ use Rattle.values.specs.declared.Value.the-variants.{Int as num, Ref as obj, Nu
 use Rattle.threads.specs.Threads.{varOf}
 use Rattle.state.specs.declared.State.{State}
 use Rattle.state.specs.State.{threadAt, countOf, classOf, freeOf, othersFree}
-use Rattle.machine.specs.Faults.{lockOf}
+use Rattle.turns.specs.Faults.{lockOf}
 use Rattle.soundness.proofs.Held.{held}
 use Rattle.soundness.specs.Balance.{Matches, names, slotOf, valueOf}
 use Rattle.soundness.specs.Invariant.{entryAt, Live, Inv}

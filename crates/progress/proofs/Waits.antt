@@ -19,11 +19,12 @@ use Rattle.threads.specs.declared.Thread.{Thread}
 use Rattle.threads.specs.Threads.{varOf}
 use Rattle.state.specs.declared.State.{State}
 use Rattle.state.specs.State.{threadAt, othersFree, lowestFree}
-use Rattle.machine.specs.declared.Stepped.{Stepped}
-use Rattle.machine.specs.Answers.{refused, test}
-use Rattle.machine.specs.Faults.{lockOf}
-use Rattle.machine.specs.Waits.{waitOf}
-use Rattle.machine.specs.Machine.{runOf, stepOf}
+use Rattle.turns.specs.declared.Stepped.{Stepped}
+use Rattle.turns.specs.Answers.{refused, test}
+use Rattle.turns.specs.Faults.{lockOf}
+use Rattle.turns.specs.Waits.{waitOf}
+use Rattle.turns.specs.Exec.{runOf}
+use Rattle.machine.specs.Machine.{stepOf}
 use Rattle.machine.proofs.Refusals.{refuses, draws, methodHere}
 use Rattle.machine.proofs.Kept.{moves}
 use Rattle.soundness.specs.Sound.{next}

@@ -25,10 +25,10 @@ use Rattle.threads.specs.declared.Thread.{Thread}
 use Rattle.threads.specs.Threads.{varOf, withAt}
 use Rattle.state.specs.State.{countOf, othersFree}
 use Rattle.belongs.proofs.Belongs.{refers-object}
-use Rattle.machine.specs.Answers.{test}
-use Rattle.machine.specs.Faults.{lockOf}
-use Rattle.machine.specs.Waits.{waitOf}
-use Rattle.machine.specs.Moves.{counted, throwMove, failMove, moveOf}
+use Rattle.turns.specs.Answers.{test}
+use Rattle.turns.specs.Faults.{lockOf}
+use Rattle.turns.specs.Waits.{waitOf}
+use Rattle.turns.specs.Moves.{counted, throwMove, failMove, moveOf}
 use Rattle.memory.specs.Words.{slotOf, objectIn}
 use Rattle.memory.specs.Frames.{addressIn, threadIn, varIn, wentIn, thrownIn}
 use Rattle.memory.proofs.Meaning.{word-object, ref-object, null-high}

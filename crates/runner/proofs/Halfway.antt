@@ -27,8 +27,8 @@ use Rattle.values.specs.declared.Slot.{Slot}
 use Rattle.threads.specs.declared.Thread.{Thread}
 use Rattle.state.specs.declared.State.{State}
 use Rattle.state.specs.State.{fieldsWith, emptyState}
-use Rattle.machine.specs.declared.Stepped.{Stepped}
-use Rattle.machine.specs.Moves.{firstFields}
+use Rattle.turns.specs.declared.Stepped.{Stepped}
+use Rattle.turns.specs.Moves.{firstFields}
 use Rattle.machine.specs.Machine.{mainThread, readable, freshState, freshOf}
 use Rattle.machine.specs.Runs.{answer, after, run, reached}
 use Rattle.soundness.proofs.Verified.{accepted as judged}

@@ -27,12 +27,13 @@ use Rattle.state.specs.State.{countOf, classOf}
 use Rattle.state.specs.State.{threadAt as threadOf}
 use Rattle.belongs.specs.Belongs.{stateOk}
 use Rattle.belongs.proofs.Belongs.{Placed}
-use Rattle.machine.specs.declared.Stepped.{Stepped}
-use Rattle.machine.specs.Answers.{test, unlessDrawn}
-use Rattle.machine.specs.Faults.{faultOf}
-use Rattle.machine.specs.Waits.{waitOf}
-use Rattle.machine.specs.Moves.{moveOf}
-use Rattle.machine.specs.Machine.{readable, runOf, stepOf}
+use Rattle.turns.specs.declared.Stepped.{Stepped}
+use Rattle.turns.specs.Answers.{test, unlessDrawn}
+use Rattle.turns.specs.Faults.{faultOf}
+use Rattle.turns.specs.Waits.{waitOf}
+use Rattle.turns.specs.Moves.{moveOf}
+use Rattle.turns.specs.Exec.{runOf}
+use Rattle.machine.specs.Machine.{readable, stepOf}
 use Rattle.soundness.proofs.Accepted.{Accepted}
 use Rattle.soundness.specs.Invariant.{Live}
 use Rattle.soundness.proofs.Invariant.{placed, vars-16, limit-16, depth-limit, state-ok}

@@ -19,9 +19,9 @@ use Rattle.threads.specs.Threads.{fromTop, topOf, withAt, topped, pushed, poppe
 use Rattle.state.specs.declared.State.{State}
 use Rattle.state.specs.State.{fieldsWith}
 use Rattle.belongs.proofs.Belongs.{refers-object}
-use Rattle.machine.specs.declared.Stepped.{Stepped}
-use Rattle.machine.specs.Faults.{has, room, mayBeObject, isFieldValue}
-use Rattle.machine.specs.Moves.{wentOn, throwMove, failMove, firstFields, makeMove, moveOf}
+use Rattle.turns.specs.declared.Stepped.{Stepped}
+use Rattle.turns.specs.Faults.{has, room, mayBeObject, isFieldValue}
+use Rattle.turns.specs.Moves.{wentOn, throwMove, failMove, firstFields, makeMove, moveOf}
 use Rattle.memory.specs.Tab.{tab}
 use Rattle.memory.specs.Words.{slotOf, objectIn}
 use Rattle.memory.specs.Frames.{addressIn, depthIn, topIn, underIn, wentIn, toppedIn, pushedIn, droppedIn, thrownIn}

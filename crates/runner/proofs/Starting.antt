@@ -18,11 +18,11 @@ use Rattle.bundle.specs.Program.{programOf}
 use Rattle.threads.specs.declared.Thread.{Thread}
 use Rattle.threads.specs.Threads.{withAt, popped, started}
 use Rattle.state.specs.State.{notLive, lowestFree}
-use Rattle.machine.specs.declared.Stepped.{Stepped}
-use Rattle.machine.specs.Answers.{test}
-use Rattle.machine.specs.Faults.{has}
-use Rattle.machine.specs.Waits.{waitOf}
-use Rattle.machine.specs.Moves.{moveOf}
+use Rattle.turns.specs.declared.Stepped.{Stepped}
+use Rattle.turns.specs.Answers.{test}
+use Rattle.turns.specs.Faults.{has}
+use Rattle.turns.specs.Waits.{waitOf}
+use Rattle.turns.specs.Moves.{moveOf}
 use Rattle.memory.specs.Tab.{tab}
 use Rattle.memory.specs.Frames.{liveIn, addressIn, depthIn, threadIn, wentIn, droppedIn, argumentIn, begunIn}
 use Rattle.memory.proofs.Frames.{Is, dropped-is, begun-is}

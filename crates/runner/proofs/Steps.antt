@@ -19,11 +19,11 @@ use Rattle.values.specs.Values.{isInt, jumps}
 use Rattle.threads.specs.declared.Thread.{Thread}
 use Rattle.threads.specs.Threads.{topOf, withAt, pushed, popped, stored, ended}
 use Rattle.state.specs.State.{withThread}
-use Rattle.machine.specs.declared.Stepped.{Stepped}
-use Rattle.machine.specs.Answers.{refused, unlessDrawn}
-use Rattle.machine.specs.Faults.{has, room, faultOf}
-use Rattle.machine.specs.Waits.{waitOf}
-use Rattle.machine.specs.Moves.{wentTo, wentOn, caught, endMove, throwMove, moveOf}
+use Rattle.turns.specs.declared.Stepped.{Stepped}
+use Rattle.turns.specs.Answers.{refused, unlessDrawn}
+use Rattle.turns.specs.Faults.{has, room, faultOf}
+use Rattle.turns.specs.Waits.{waitOf}
+use Rattle.turns.specs.Moves.{wentTo, wentOn, caught, endMove, throwMove, moveOf}
 use Rattle.memory.specs.Words.{slotOf, incWord}
 use Rattle.memory.specs.Frames.{addressIn, depthIn, threadIn, topIn, varIn, wentIn, toppedIn, pushedIn, poppedIn, storedIn, branchedIn, endedIn, caughtIn, thrownIn}
 use Rattle.memory.proofs.Meaning.{word-zero}

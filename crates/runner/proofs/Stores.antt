@@ -16,7 +16,7 @@ use Rattle.values.specs.Values.{zeroSlot, nullSlot}
 use Rattle.threads.specs.declared.Thread.{Thread}
 use Rattle.state.specs.declared.State.{State}
 use Rattle.state.specs.State.{fieldsWith, withObject}
-use Rattle.machine.specs.Moves.{firstField, firstFields}
+use Rattle.turns.specs.Moves.{firstField, firstFields}
 use Rattle.memory.specs.Tab.{tab}
 use Rattle.memory.specs.Words.{slotOf}
 use Rattle.memory.specs.Frames.{threadIn}

@@ -6,7 +6,7 @@ mod objects;
 mod starts;
 mod states;
 mod table;
-mod turns;
+mod turn;
 
 ghost use mathlib.Core.Path.{_≡_};
 ghost use Rattle.verifier.specs.Verdict.{verdictOf};
@@ -51,7 +51,7 @@ fn accepted(b: &[u8], schedule: &[u8], v: Verdict) -> Ran
     memory::starts::begin(&mut frames[0], [0u64; 16], 0);
     for n in 0..schedule.len() {
         let x = schedule[n];
-        let answer = turns::turn(
+        let answer = turn::turn(
             b,
             &table,
             &mut frames,

@@ -27,9 +27,9 @@ use Rattle.threads.specs.declared.Thread.{Thread}
 use Rattle.threads.specs.Threads.{topOf, popped, ended}
 use Rattle.state.specs.declared.State.{State}
 use Rattle.state.specs.State.{threadAt, countOf, classOf, isFree, holdsNothing}
-use Rattle.machine.specs.Answers.{test}
-use Rattle.machine.specs.Faults.{endFault, throwFault, athrowFault}
-use Rattle.machine.specs.Moves.{wentTo, endMove, caught, throwMove, failMove}
+use Rattle.turns.specs.Answers.{test}
+use Rattle.turns.specs.Faults.{endFault, throwFault, athrowFault}
+use Rattle.turns.specs.Moves.{wentTo, endMove, caught, throwMove, failMove}
 use Rattle.soundness.specs.Balance.{Matches, valueOf, Stands}
 use Rattle.soundness.specs.Invariant.{entryAt, Asleep, Inv}
 use Rattle.soundness.proofs.Balance.{all-go}

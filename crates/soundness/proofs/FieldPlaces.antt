@@ -15,7 +15,7 @@ use Rattle.entries.specs.Entries.{Int, Nullable, noEnd, dipOf, endOf, fieldEntr
 use Rattle.values.specs.declared.Slot.{Slot}
 use Rattle.values.specs.Values.{zeroSlot, nullSlot}
 use Rattle.state.specs.State.{fieldOf, fieldsWith}
-use Rattle.machine.specs.Moves.{firstField, firstFields}
+use Rattle.turns.specs.Moves.{firstField, firstFields}
 use Rattle.soundness.specs.Balance.{Matches}
 
 -- what a field holds weighs nothing

@@ -24,8 +24,8 @@ use Rattle.threads.specs.declared.Thread.{Thread}
 use Rattle.threads.specs.Threads.{fromTop, topOf, withAt, topped, popped}
 use Rattle.state.specs.declared.State.{State}
 use Rattle.state.specs.State.{threadAt, countOf, classOf, fieldOf, withField}
-use Rattle.machine.specs.Faults.{throwFault, mayBeObject, getFault, putFault}
-use Rattle.machine.specs.Moves.{wentOn, failMove, getMove, putMove}
+use Rattle.turns.specs.Faults.{throwFault, mayBeObject, getFault, putFault}
+use Rattle.turns.specs.Moves.{wentOn, failMove, getMove, putMove}
 use Rattle.soundness.specs.Balance.{Matches, Stands}
 use Rattle.soundness.specs.Invariant.{Inv}
 use Rattle.soundness.proofs.Held.{AllFit, held}

@@ -22,7 +22,7 @@ use Rattle.threads.specs.declared.Thread.{Thread}
 use Rattle.threads.specs.Threads.{idle}
 use Rattle.state.specs.declared.State.{State}
 use Rattle.state.specs.State.{countOf, classOf, fieldOf, emptyState}
-use Rattle.machine.specs.Moves.{firstFields}
+use Rattle.turns.specs.Moves.{firstFields}
 use Rattle.machine.specs.Machine.{mainThread, freshState}
 use Rattle.held.proofs.Word.{no-bits}
 use Rattle.machine.proofs.Changes.{grown}

@@ -10,7 +10,7 @@ use Rattle.threads.specs.declared.Thread.{Thread}
 use Rattle.threads.specs.Threads.{withAt}
 use Rattle.state.specs.declared.State.{State}
 use Rattle.state.specs.State.{threadAt, countOf, classOf}
-use Rattle.machine.specs.Moves.{wentTo}
+use Rattle.turns.specs.Moves.{wentTo}
 use Rattle.matching.specs.Matching.{wants, edge}
 use Rattle.soundness.specs.Balance.{Stands}
 use Rattle.soundness.specs.Invariant.{Live, Inv}

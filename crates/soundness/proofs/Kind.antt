@@ -15,7 +15,7 @@ use Rattle.values.specs.declared.Value.{Value}
 use Rattle.values.specs.declared.Value.the-variants.{Int as num, Ref as obj, Null as null}
 use Rattle.values.specs.Values.{isIntValue, isNullValue, isNull, isRefValue, objectOfValue, refersValue, incValue}
 use Rattle.values.specs.Values as values
-use Rattle.machine.specs.Faults.{isObject, mayBeObject, isFieldValue}
+use Rattle.turns.specs.Faults.{isObject, mayBeObject, isFieldValue}
 use Rattle.soundness.specs.Balance.{Matches}
 
 pub nope : {A : Type 0} → false ≡ true → A

@@ -27,10 +27,10 @@ use Rattle.threads.specs.declared.Thread.{Thread}
 use Rattle.threads.specs.Threads.{varOf, withAt}
 use Rattle.state.specs.declared.State.{State}
 use Rattle.state.specs.State.{threadAt, countOf, classOf, withCount, freeOf, othersFree}
-use Rattle.machine.specs.Answers.{test}
-use Rattle.machine.specs.Faults.{lockOf, enterFault, exitFault}
-use Rattle.machine.specs.Waits.{enterWait}
-use Rattle.machine.specs.Moves.{counted, enterMove, exitMove}
+use Rattle.turns.specs.Answers.{test}
+use Rattle.turns.specs.Faults.{lockOf, enterFault, exitFault}
+use Rattle.turns.specs.Waits.{enterWait}
+use Rattle.turns.specs.Moves.{counted, enterMove, exitMove}
 use Rattle.soundness.specs.Balance.{Matches, Stands}
 use Rattle.soundness.specs.Invariant.{Inv}
 use Rattle.soundness.proofs.Held.{Meets, Fits, held}

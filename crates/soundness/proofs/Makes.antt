@@ -24,8 +24,8 @@ use Rattle.threads.specs.declared.Thread.{Thread}
 use Rattle.threads.specs.Threads.{withAt, pushed}
 use Rattle.state.specs.declared.State.{State}
 use Rattle.state.specs.State.{threadAt, countOf, classOf}
-use Rattle.machine.specs.Faults.{pushFault, newFails, newFault}
-use Rattle.machine.specs.Moves.{firstFields, makeMove, newMove}
+use Rattle.turns.specs.Faults.{pushFault, newFails, newFault}
+use Rattle.turns.specs.Moves.{firstFields, makeMove, newMove}
 use Rattle.machine.proofs.Changes.{grown}
 use Rattle.soundness.specs.Balance.{Stands}
 use Rattle.soundness.specs.Invariant.{Live, Inv}

@@ -17,9 +17,9 @@ use Rattle.threads.specs.declared.Thread.{Thread}
 use Rattle.threads.specs.Threads.{idle}
 use Rattle.state.specs.declared.State.{State}
 use Rattle.state.specs.State.{threadAt, countOf, classOf, fieldOf, withThread, withCount, withField, fieldsWith, withObject}
-use Rattle.machine.specs.declared.Stepped.{Stepped}
-use Rattle.machine.specs.Answers.{refused}
-use Rattle.machine.specs.Moves.{firstFields}
+use Rattle.turns.specs.declared.Stepped.{Stepped}
+use Rattle.turns.specs.Answers.{refused}
+use Rattle.turns.specs.Moves.{firstFields}
 use Rattle.machine.proofs.Changes.{Sized, counted-sized, words-written, grown}
 use Rattle.soundness.specs.Balance.{Matches, valueOf}
 use Rattle.soundness.specs.Invariant.{entryAt, Live, Asleep, Standing, Whole, StandingAt, Inv}

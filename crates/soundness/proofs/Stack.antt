@@ -24,8 +24,8 @@ use Rattle.threads.specs.declared.Thread.{Thread}
 use Rattle.threads.specs.Threads.{topOf, varOf, topped, pushed, popped, stored}
 use Rattle.state.specs.declared.State.{State}
 use Rattle.state.specs.State.{threadAt, countOf, classOf}
-use Rattle.machine.specs.Faults.{topFault, intFault, pushFault}
-use Rattle.machine.specs.Moves.{wentTo, wentOn, incMove, popMove, push0Move, loadMove, storeMove, ifMove}
+use Rattle.turns.specs.Faults.{topFault, intFault, pushFault}
+use Rattle.turns.specs.Moves.{wentTo, wentOn, incMove, popMove, push0Move, loadMove, storeMove, ifMove}
 use Rattle.machine.proofs.Refusals.{either}
 use Rattle.soundness.specs.Balance.{Stands}
 use Rattle.soundness.specs.Invariant.{Inv}

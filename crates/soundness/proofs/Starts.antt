@@ -29,9 +29,9 @@ use Rattle.threads.specs.declared.Thread.{Thread}
 use Rattle.threads.specs.Threads.{fromTop, withAt, popped, started}
 use Rattle.state.specs.declared.State.{State}
 use Rattle.state.specs.State.{threadAt, countOf, classOf, withThread, notLive, lowestFree}
-use Rattle.machine.specs.Faults.{isObject, isArgument, argumentAt, argumentsOk, startFault}
-use Rattle.machine.specs.Waits.{startWait}
-use Rattle.machine.specs.Moves.{startedBy, startMove}
+use Rattle.turns.specs.Faults.{isObject, isArgument, argumentAt, argumentsOk, startFault}
+use Rattle.turns.specs.Waits.{startWait}
+use Rattle.turns.specs.Moves.{startedBy, startMove}
 use Rattle.soundness.specs.Balance.{Matches, Stands}
 use Rattle.soundness.specs.Invariant.{Live, Asleep, Inv}
 use Rattle.soundness.proofs.Kind.{int-value, argument-kind, object-is}

@@ -19,11 +19,11 @@ use Rattle.threads.specs.declared.Thread.{Thread}
 use Rattle.threads.specs.Threads.{varOf}
 use Rattle.state.specs.declared.State.{State}
 use Rattle.state.specs.State.{threadAt, countOf, othersFree, lowestFree}
-use Rattle.machine.specs.Answers.{refused, test}
-use Rattle.machine.specs.Faults.{lockOf, faultOf}
-use Rattle.machine.specs.Waits.{waitOf}
-use Rattle.machine.specs.Moves.{moveOf}
-use Rattle.machine.specs.Machine.{runOf}
+use Rattle.turns.specs.Answers.{refused, test}
+use Rattle.turns.specs.Faults.{lockOf, faultOf}
+use Rattle.turns.specs.Waits.{waitOf}
+use Rattle.turns.specs.Moves.{moveOf}
+use Rattle.turns.specs.Exec.{runOf}
 use Rattle.machine.proofs.Refusals.{draws}
 use Rattle.soundness.specs.Invariant.{Inv}
 use Rattle.soundness.proofs.Accepted.{Accepted}

@@ -6,7 +6,7 @@ use Prim.Native.Nat.{ℕ}
 use Rattle.structure.specs.declared.Verdict.{Verdict}
 use Rattle.verifier.specs.Verdict.{verdictOf}
 use Rattle.state.specs.declared.State.{State}
-use Rattle.machine.specs.declared.Stepped.{Stepped}
+use Rattle.turns.specs.declared.Stepped.{Stepped}
 use Rattle.machine.specs.Machine.{freshOf, stepOf}
 use Rattle.soundness.specs.Sound.{Safe, Sound}
 

@@ -1,6 +1,6 @@
 // Steps of the machine, from the state that a case has put together.
-use machine::Stepped;
 use state::State;
+use turns::Stepped;
 
 fn steps(b: &[u8], s: State, thread: u8, fails: bool, n: u32) -> Stepped {
     let mut came = Stepped {

@@ -8,8 +8,8 @@ use crate::runs;
 use crate::states;
 use crate::wants;
 use crate::words;
-use machine::Stepped;
 use state::State;
+use turns::Stepped;
 
 // What the steps have come to: the bundle's length, the state put together, what the machine's last step gave, and whether each was a step.
 pub(crate) struct Setting {

@@ -1,9 +1,9 @@
 // What a case wants, compared with what the code gives; where they differ, a line says so.
 use crate::equal;
 use crate::report;
-use machine::Stepped;
 use state::State;
 use structure::Verdict;
+use turns::Stepped;
 
 fn is(name: &[u8], got: [u32; 4], want: [u32; 4]) -> bool {
     for i in 0..4usize {

@@ -2,7 +2,7 @@ use mathlib.Core.Path.{_≡_, refl, _∙_}
 use lib.ListN.{length}
 use Rattle.bundle.specs.Program.{programOf}
 use Rattle.threads.proofs.Places.{length-mapped}
-use Rattle.machine.proofs.Ready.{next-fits, runs}
+use Rattle.machine.proofs.Ready.{runs}
 use Rattle.machine.proofs.Uncounted.{uncounted}
 use borrow.Author.Needs.{needs}
 use Rattle.machine.proofs.run.Statement.{statement}
@@ -15,7 +15,7 @@ element-copy-out-t : tie.Need-element-copy-out-t
 element-copy-out-t c = search needs
 
 turn-of-requires : tie.Need-turn-of-requires
-turn-of-requires c κs = next-fits _ (c .before .before .before .before .before .before .before .args .s) _ _ (search (needs, length-mapped)) (c .before .before .before .before .before .before .before .pre)
+turn-of-requires c κs = search needs
 
 enum-told : tie.Need-enum-told
 enum-told c = search needs
