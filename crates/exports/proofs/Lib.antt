@@ -1,2 +1,3 @@
+pub mod OneFilling
 pub mod Turns
 pub mod Packing

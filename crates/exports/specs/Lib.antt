@@ -1,3 +1,4 @@
 pub mod Exports
+pub mod Filling
 pub mod Packing
 pub mod Runs

@@ -1,4 +1,5 @@
 // C calls on byte slices, for tests, benchmarks and Rust callers.
+mod filling;
 mod runs;
 mod texts;
 
