@@ -26,7 +26,7 @@ use Rattle.threads.specs.Threads.{varOf}
 use Rattle.state.specs.declared.State.{State}
 use Rattle.state.specs.State.{threadAt, countOf, classOf, freeOf, othersFree}
 use Rattle.turns.specs.Faults.{lockOf}
-use Rattle.soundness.proofs.Held.{held}
+use Rattle.rules.proofs.Held.{held}
 use Rattle.soundness.specs.Balance.{Matches, names, slotOf, valueOf}
 use Rattle.soundness.specs.Invariant.{entryAt, Live, Inv}
 use Rattle.soundness.proofs.Kind.{nope, ref-value, nullable-value, not-null}

@@ -34,7 +34,7 @@ use Rattle.soundness.specs.Balance.{Matches, valueOf, Stands}
 use Rattle.soundness.specs.Invariant.{entryAt, Asleep, Inv}
 use Rattle.soundness.proofs.Balance.{all-go}
 use Rattle.soundness.proofs.Kind.{null-entry, object-is}
-use Rattle.soundness.proofs.Held.{AllFit, held}
+use Rattle.rules.proofs.Held.{AllFit, held}
 use Rattle.soundness.proofs.Weights.{goes-end}
 use Rattle.soundness.proofs.Slots.{all-end}
 use Rattle.soundness.proofs.Values.{pushed-is}

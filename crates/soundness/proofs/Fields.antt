@@ -28,7 +28,7 @@ use Rattle.turns.specs.Faults.{throwFault, mayBeObject, getFault, putFault}
 use Rattle.turns.specs.Moves.{wentOn, failMove, getMove, putMove}
 use Rattle.soundness.specs.Balance.{Matches, Stands}
 use Rattle.soundness.specs.Invariant.{Inv}
-use Rattle.soundness.proofs.Held.{AllFit, held}
+use Rattle.rules.proofs.Held.{AllFit, held}
 use Rattle.soundness.proofs.Kind.{nullable-value, not-null, ref-value, field-kind, may-be-object-is, field-value-is}
 use Rattle.soundness.proofs.Weights.{goes-end}
 use Rattle.soundness.proofs.FieldPlaces.{field-pair}

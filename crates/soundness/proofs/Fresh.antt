@@ -28,7 +28,7 @@ use Rattle.held.proofs.Word.{no-bits}
 use Rattle.machine.proofs.Changes.{grown}
 use Rattle.soundness.specs.Balance.{Matches, slotOf, valueIn}
 use Rattle.soundness.specs.Invariant.{entryAt, Live, Inv}
-use Rattle.soundness.proofs.Held.{compared}
+use Rattle.rules.proofs.Held.{compared}
 use Rattle.soundness.proofs.Weights.{same-weaker, meets-weaker, gone-slot, fresh-slot}
 use Rattle.soundness.proofs.Weights as weights
 use Rattle.soundness.proofs.Balance.{keep-all, none-balanced}

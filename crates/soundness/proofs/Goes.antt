@@ -14,7 +14,7 @@ use Rattle.turns.specs.Moves.{wentTo}
 use Rattle.matching.specs.Matching.{wants, edge}
 use Rattle.soundness.specs.Balance.{Stands}
 use Rattle.soundness.specs.Invariant.{Live, Inv}
-use Rattle.soundness.proofs.Held.{Fits}
+use Rattle.rules.proofs.Held.{Fits}
 use Rattle.soundness.proofs.Accepted.{Accepted}
 use Rattle.soundness.proofs.Stands.{fit-stands}
 use Rattle.soundness.proofs.Invariant.{vars-16, limit-16, depth-limit}

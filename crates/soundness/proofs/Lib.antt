@@ -1,4 +1,3 @@
-pub mod Held
 pub mod Kind
 pub mod Weights
 pub mod Balance

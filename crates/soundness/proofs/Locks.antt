@@ -33,7 +33,7 @@ use Rattle.turns.specs.Waits.{enterWait}
 use Rattle.turns.specs.Moves.{counted, enterMove, exitMove}
 use Rattle.soundness.specs.Balance.{Matches, Stands}
 use Rattle.soundness.specs.Invariant.{Inv}
-use Rattle.soundness.proofs.Held.{Meets, Fits, held}
+use Rattle.rules.proofs.Held.{Meets, Fits, held}
 use Rattle.soundness.proofs.Kind.{nullable-value, not-null, no-int}
 use Rattle.soundness.proofs.Weights.{nullable-goes}
 use Rattle.soundness.proofs.Accepted.{Accepted}

@@ -29,7 +29,7 @@ use Rattle.turns.specs.Moves.{firstFields, makeMove, newMove}
 use Rattle.machine.proofs.Changes.{grown}
 use Rattle.soundness.specs.Balance.{Stands}
 use Rattle.soundness.specs.Invariant.{Live, Inv}
-use Rattle.soundness.proofs.Held.{Fits, held}
+use Rattle.rules.proofs.Held.{Fits, held}
 use Rattle.soundness.proofs.Values.{pushed-is}
 use Rattle.soundness.proofs.Accepted.{Accepted}
 use Rattle.soundness.proofs.Stands.{push-stands, fit-stands}

@@ -11,7 +11,7 @@ use Rattle.entries.specs.Entries.{Entry, Blank, noEnd, endOf}
 use Rattle.rows.specs.Rows.{Row}
 use Rattle.matching.specs.Matching.{popped, pushed, stored, wants, edge, varGoes, varsGo, entryGoes, stackGoes}
 use Rattle.soundness.specs.Balance.{slotOf}
-use Rattle.soundness.proofs.Held.{Fits}
+use Rattle.rules.proofs.Held.{Fits}
 use Rattle.soundness.proofs.Weights.{Weaker, same-weaker, meets-weaker, goes-end}
 
 module _ (vars : ℕ) (v16 : vars ≤ 16) (x : Row) where

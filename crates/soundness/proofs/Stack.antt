@@ -29,7 +29,7 @@ use Rattle.turns.specs.Moves.{wentTo, wentOn, incMove, popMove, push0Move, load
 use Rattle.machine.proofs.Refusals.{either}
 use Rattle.soundness.specs.Balance.{Stands}
 use Rattle.soundness.specs.Invariant.{Inv}
-use Rattle.soundness.proofs.Held.{Fits, held}
+use Rattle.rules.proofs.Held.{Fits, held}
 use Rattle.soundness.proofs.Kind.{int-value, int-inc}
 use Rattle.soundness.proofs.Weights.{goes-end, int-goes, plain-pair}
 use Rattle.soundness.proofs.Values.{pushed-is}

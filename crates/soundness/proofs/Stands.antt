@@ -23,7 +23,7 @@ use Rattle.values.specs.Values.{zeroSlot, isRef, objectOf}
 use Rattle.threads.specs.declared.Thread.{Thread}
 use Rattle.threads.specs.Threads.{fromTop, topOf, varOf, topped, pushed, popped, stored}
 use Rattle.soundness.specs.Balance.{Matches, names, Balanced, slotOf, valueIn, valueOf, Stands}
-use Rattle.soundness.proofs.Held.{Meets, Fits, compared}
+use Rattle.rules.proofs.Held.{Meets, Fits, compared}
 use Rattle.soundness.proofs.Kind.{takes-kind, ref-value}
 use Rattle.soundness.proofs.Weights.{same-weaker, kept-slot, gone-slot, fresh-slot, light-slot}
 use Rattle.soundness.proofs.Weights as weights

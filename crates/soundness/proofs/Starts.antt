@@ -35,7 +35,7 @@ use Rattle.turns.specs.Moves.{startedBy, startMove}
 use Rattle.soundness.specs.Balance.{Matches, Stands}
 use Rattle.soundness.specs.Invariant.{Live, Asleep, Inv}
 use Rattle.soundness.proofs.Kind.{int-value, argument-kind, object-is}
-use Rattle.soundness.proofs.Held.{Fits, held}
+use Rattle.rules.proofs.Held.{Fits, held}
 use Rattle.soundness.proofs.Weights.{goes-end}
 use Rattle.soundness.proofs.Values.{value-argument, value-zero}
 use Rattle.soundness.proofs.Accepted.{Accepted}

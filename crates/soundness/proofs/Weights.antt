@@ -12,7 +12,7 @@ use Rattle.values.specs.declared.Value.{Value}
 use Rattle.values.specs.declared.Value.the-variants.{Int as num, Ref as obj, Null as null}
 use Rattle.soundness.specs.Balance.{Matches, names, dip, end}
 use Rattle.soundness.proofs.Kind.{nope, takes-kind}
-use Rattle.soundness.proofs.Held.{Meets}
+use Rattle.rules.proofs.Held.{Meets}
 
 pub cond-le : (b : Bool) (a c x : ℕ) → a ≤ c → cond b a x ≤ cond b c x
 cond-le true a c x h = h
