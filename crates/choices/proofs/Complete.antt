@@ -38,8 +38,8 @@ use Rattle.shape.specs.Apart.{Readable}
 use Rattle.shape.proofs.Readable.{good, bundle-long, extent}
 use Rattle.needs.specs.declared.Pair.{Pair}
 use Rattle.needs.specs.Needs.{varNeed, stackNeed}
-use Rattle.needs.proofs.Entries.{Under, Has, top-under, reference-under, plain-under, want-lower, meets-same}
-use Rattle.needs.proofs.Rows.{UnderRow, AllHave}
+use Rattle.needs.specs.Exactly.{Under, UnderRow, Has, AllHave}
+use Rattle.needs.proofs.Entries.{top-under, reference-under, plain-under, want-lower, meets-same}
 use Rattle.needs.proofs.Rules.{Step, step}
 use Rattle.needs.proofs.Programs.{Agree, rule-same}
 use Rattle.choices.specs.Choice.{Choice, Accepted, Below}
@@ -226,11 +226,11 @@ module _ (b : List ℕ) (R : Readable b) where
     step-at c l h low high =
         step (programOf b) (classAt b c .vars) (rowsIn x c) (rowsIn y c) l (classes b) (fieldsOf b) (classAt b c .code) low high (under c h) (codeIn c l) (in-table c l h low high)
 
-    -- THEOREM: what x asks, every accepted choice above it has
+    -- what x asks, every accepted choice above it has
     pub forced : (c l : ℕ) → c < classes b → 1 ≤ l → l ≤ classAt b c .code → HaveAt x y c l
     forced c l h low high = step-at c l h low high .forced (rule-y c l h low high)
 
-    -- THEOREM: where x has it too, x is accepted
+    -- where x has it too, x is accepted
     pub complete : Still x → verdictOf x ≡ verdict 0 (classes x) 0
     complete S = zero-verdict x at-place
       where

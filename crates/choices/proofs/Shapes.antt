@@ -21,8 +21,7 @@ use Rattle.shape.specs.Shape.{aside, entryAside, variableAside, stackAside, row
 use Rattle.shape.specs.Apart.{Readable}
 use Rattle.shape.proofs.Places.{place-high}
 use Rattle.shape.proofs.Readable.{part-byte, part-long, row-shaped, depth-limit, extent}
-use Rattle.needs.proofs.Entries.{Under, same, less}
-use Rattle.needs.proofs.Rows.{UnderRow}
+use Rattle.needs.specs.Exactly.{Under, same, less, UnderRow}
 use Rattle.choices.specs.Choice.{Choice, Below}
 use Rattle.choices.proofs.Choices.{reference-is, entry-x, kind-same, kind-class-same, entry-b, variable-x, stack-x, depth-same}
 

@@ -1,6 +1,6 @@
 -- What the rules ask of one entry of a bundle: every accepted choice has it; and where every entry has it, a choice is still.
 use mathlib.Core.List.{List}
-use mathlib.Core.Path.{_≡_, sym, _∙_}
+use mathlib.Core.Path.{_≡_, sym, ap, _∙_}
 use mathlib.Core.Bool.{true}
 use Prim.Native.Nat.{ℕ, _+_, _-_, _≤_, _<_}
 use native.Mathlib.Omega.{arith}
@@ -11,6 +11,7 @@ use Rattle.ground.specs.Bytes.{at}
 use Rattle.ground.proofs.Bools.{and-fst}
 use Rattle.bundle.specs.declared.Class.{Class}
 use Rattle.bundle.specs.Container.{classes, classAt}
+use Rattle.structure.specs.declared.Verdict.{Verdict}
 use Rattle.entries.specs.Entries.{Entry, Ref, entryOf, isReference}
 use Rattle.entries.proofs.Types.{reference-bytes}
 use Rattle.shape.specs.PairBytes.{placeOf, depthOf, InUse, Reference}
@@ -18,23 +19,24 @@ use Rattle.shape.specs.Apart.{Readable}
 use Rattle.shape.proofs.Readable.{depth-limit}
 use Rattle.needs.specs.declared.Pair.{Pair}
 use Rattle.needs.specs.Needs.{entryNeed}
-use Rattle.needs.proofs.Entries.{Has}
+use Rattle.needs.specs.Exactly.{Has}
 use Rattle.choices.specs.Asked.{needAt, Enough}
 use Rattle.choices.specs.Choice.{Choice, Accepted, Below}
+use Rattle.choices.specs.Complete.{ForcedEntry, EnoughAccepted}
 use Rattle.choices.proofs.Choices.{kind-same}
 use Rattle.choices.proofs.Shapes.{row-variable, row-stack, row-depth, reference-entry}
-use Rattle.choices.proofs.Complete.{forced, HaveAt, MeetAt, Still}
+use Rattle.choices.proofs.Complete.{forced, complete, HaveAt, MeetAt, Still}
 
 -- an entry that is a reference is of kind 3
 kind-3 : (n a c d e : ℕ) → isReference (entryOf n a c d e) ≡ true → a ≡ 3
 kind-3 n a c d e h = eqb-true a 3 (and-fst (eqb a 3) _ (reference-bytes n c d e a ∙ h))
 
 module _ (b : List ℕ) (R : Readable b) (x : List ℕ) (C : Choice b x) where
-  -- THEOREM: every accepted choice above it has what is asked
-  pub forced-entry : (c l s : ℕ) → Reference b c l s → (y : List ℕ) → Choice b y → Accepted y → Below x y
+  -- every accepted choice above it has what is asked
+  entry-forced : (c l s : ℕ) → Reference b c l s → (y : List ℕ) → Choice b y → Accepted y → Below x y
       → (needAt b x c l s .dip ≤ at y (placeOf b c l s + 2)) × (needAt b x c l s .end ≤ at y (placeOf b c l s + 3))
   unfolding needAt entryNeed
-  forced-entry c l s r y D A below = go (decLt s (classAt b c .vars))
+  entry-forced c l s r y D A below = go (decLt s (classAt b c .vars))
     where
       u : InUse b c l s
       u = r .in-use
@@ -62,7 +64,7 @@ module _ (b : List ℕ) (R : Readable b) (x : List ℕ) (C : Choice b x) where
           rw (le-ltb s (classAt b c .vars) (omega arith))
           (of-reference (rw (row-stack b R c (u .class-known) l (u .first) (u .last) y D (s - classAt b c .vars) (omega (arith, d)), e) at (have .stack (s - classAt b c .vars) k)))
 
-  -- THEOREM: where every reference has what is asked, nothing is left to raise
+  -- where every reference has what is asked, nothing is left to raise
   module _ (f : (c l s : ℕ) → Reference b c l s → Enough b x c l s) (c l : ℕ) (lc : c < classes b) (low : 1 ≤ l) (high : l ≤ classAt b c .code) where
     abbrev k : Class
     k = classAt b c
@@ -95,3 +97,11 @@ module _ (b : List ℕ) (R : Readable b) (x : List ℕ) (C : Choice b x) where
 
   pub enough-still : ((c l s : ℕ) → Reference b c l s → Enough b x c l s) → Still b R x
   enough-still f c l lc low high = still-at f c l lc low high
+
+-- THEOREM: what a choice asks of a reference, every accepted choice above it has there
+pub forced-entry : ForcedEntry
+forced-entry b R x C = entry-forced b R x C
+
+-- THEOREM: a choice whose references have what it asks of them is accepted if one above it is
+pub enough-accepted : EnoughAccepted
+enough-accepted b R x C y D A below f = ap (λ (v : Verdict). v .number) (complete b R x y C D A below (enough-still b R x C f))

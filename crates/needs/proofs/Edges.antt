@@ -13,8 +13,9 @@ use Rattle.matching.specs.Matching.{under, popped, pushed, stored, wants, Wants
 use Rattle.rules.specs.Rules.{made, unnulled}
 use Rattle.rules.proofs.Held.{Meets, Fits}
 use Rattle.needs.specs.Needs.{asked, fitting, gone, kept, keptBut, below, taken}
-use Rattle.needs.proofs.Entries.{Under, Has, under-class, nullable-under, reference-under, plain-under, Lower, want-lower, entered-lower, both-lower, meets-forced, meets-holds, meets-same, null-weight}
-use Rattle.needs.proofs.Rows.{UnderRow, AllHave, taken-forced, taken-top, taken-holds, kept-forced, kept-holds, but-forced, but-holds}
+use Rattle.needs.specs.Exactly.{Under, UnderRow, Has, AllHave}
+use Rattle.needs.proofs.Entries.{under-class, nullable-under, reference-under, plain-under, Lower, want-lower, entered-lower, both-lower, meets-forced, meets-holds, meets-same, null-weight}
+use Rattle.needs.proofs.Rows.{taken-forced, taken-top, taken-holds, kept-forced, kept-holds, but-forced, but-holds}
 
 module _ (vars : ℕ) (x x′ y y′ : Row) (u : UnderRow vars x x′) (v : UnderRow vars y y′) where
   -- ---- a entries go from the top: pop, if, start, putfield

@@ -12,15 +12,7 @@ use Rattle.entries.specs.Fits.{Want, mayGo, takes, want, wantEntered, wantExite
 use Rattle.rules.proofs.Held.{Meets}
 use Rattle.needs.specs.declared.Pair.{Pair}
 use Rattle.needs.specs.Needs.{asked, gone, greater, both, orNull}
-
-pub data Under : Entry → Entry → Type 0 where
-  same : {x : Entry} → Under x x
-  less : {c d e d′ e′ : ℕ} → d ≤ d′ → e ≤ e′ → Under (Ref c d e) (Ref c d′ e′)
-
--- x has at least the pair p
-pub record Has (p : Pair) (x : Entry) : Type 0 where
-  pub dip : p .dip ≤ dipOf x
-  pub end : p .end ≤ endOf x
+use Rattle.needs.specs.Exactly.{Under, same, less, Has}
 
 module _ {x y : Entry} (u : Under x y) where
   under-dip : dipOf x ≤ dipOf y

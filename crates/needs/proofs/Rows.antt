@@ -13,18 +13,8 @@ use Rattle.matching.specs.Matching.{varGoes, varsGo, entryGoes, stackGoes}
 use Rattle.rules.proofs.Held.{Meets}
 use Rattle.needs.specs.declared.Pair.{Pair}
 use Rattle.needs.specs.Needs.{asked, fitting, gone, kept, keptBut, taken}
-use Rattle.needs.proofs.Entries.{Under, Has, Lower, want-lower, meets-forced, meets-holds, goes-forced, goes-holds}
-
--- same depth; each variable and each stack entry in use is under the other row's
-pub record UnderRow (vars : ℕ) (x y : Row) : Type 0 where
-  pub depth : x .depth ≡ y .depth
-  pub variable : (i : ℕ) → i < vars → Under (x .variable i) (y .variable i)
-  pub stack : (j : ℕ) → j < x .depth → Under (x .stack j) (y .stack j)
-
--- the row x has what is asked of each entry in use
-pub record AllHave (vars depth : ℕ) (ofVar ofStack : ℕ → Pair) (x : Row) : Type 0 where
-  pub variable : (i : ℕ) → i < vars → Has (ofVar i) (x .variable i)
-  pub stack : (j : ℕ) → j < depth → Has (ofStack j) (x .stack j)
+use Rattle.needs.specs.Exactly.{Under, UnderRow, Has}
+use Rattle.needs.proofs.Entries.{Lower, want-lower, meets-forced, meets-holds, goes-forced, goes-holds}
 
 module _ (vars : ℕ) (x x′ : Row) (u : UnderRow vars x x′) where
   -- ---- the stack: a entries go, and the others fit the entries f, which are under f′

@@ -21,9 +21,10 @@ use Rattle.matching.specs.Matching.{popped, stackGoes, entryGoes}
 use Rattle.rules.specs.Rule.{ruleHolds}
 use Rattle.rules.specs.Rules.{made, uncaughtGoes, nullGoes, incRule, popRule, push0Rule, loadRule, storeRule, ifRule, enterRule, exitRule, newRule, argumentGoes, objectGoes, argumentsGo, startRule, throwRule, returnRule, ownerGoes, getRule, putRule, ruleOf}
 use Rattle.rules.proofs.Held.{held, holds}
-use Rattle.needs.specs.Needs.{gone, kept, taken, thrownVar, thrownTop, throwNeed, varNeed, stackNeed}
-use Rattle.needs.proofs.Entries.{Has, int-under, nullable-under, reference-under, of-under, may-be-under, matches-under, field-under, both-has, left-has, right-has, null-has, null-left, null-right, exited-lower, goes-forced, goes-holds, int-has}
-use Rattle.needs.proofs.Rows.{UnderRow, AllHave, vars-gone, vars-go, stack-gone, stack-goes}
+use Rattle.needs.specs.Needs.{gone, kept, taken, thrownVar, thrownTop, throwNeed}
+use Rattle.needs.specs.Exactly.{UnderRow, Has, AllHave, Met}
+use Rattle.needs.proofs.Entries.{int-under, nullable-under, reference-under, of-under, may-be-under, matches-under, field-under, both-has, left-has, right-has, null-has, null-left, null-right, exited-lower, goes-forced, goes-holds, int-has}
+use Rattle.needs.proofs.Rows.{vars-gone, vars-go, stack-gone, stack-goes}
 use Rattle.needs.proofs.Edges.{popped-forced, popped-top, popped-holds, replaced-forced, replaced-top, replaced-holds, pushed-forced, pushed-holds, moved-forced, moved-holds, stored-forced, stored-old, stored-holds, entered-forced, entered-holds, loaded-forced, loaded-holds}
 use Rattle.needs.proofs.Throws.{thrown-forced, thrown-holds, failure-forced, failure-holds, null-forced, null-holds}
 
@@ -61,13 +62,9 @@ module _ (P : Program) (vars : ℕ) (cur acc : ℕ → Row) (l : ℕ) where
   abbrev y′ : Row
   y′ = acc (l + 1)
 
-  -- row l of some rows has what the instruction i asks of it, as the rows `cur` have it
-  abbrev pub Met : Instruction → Row → Type 0
-  Met i r = AllHave vars (x .depth) (varNeed cur l i) (stackNeed P cur l i) r
-
   pub record Step (i : Instruction) : Type 0 where
-    pub forced : ruleHolds vars (ruleOf P vars acc l i) ≡ true → Met i x′
-    pub holds : ruleHolds vars (ruleOf P vars acc l i) ≡ true → Met i x → ruleHolds vars (ruleOf P vars cur l i) ≡ true
+    pub forced : ruleHolds vars (ruleOf P vars acc l i) ≡ true → Met P vars cur l i x′
+    pub holds : ruleHolds vars (ruleOf P vars acc l i) ≡ true → Met P vars cur l i x → ruleHolds vars (ruleOf P vars cur l i) ≡ true
 
   module _ (u : UnderRow vars x x′) where
     return-step : Step Return
@@ -169,22 +166,22 @@ module _ (P : Program) (vars : ℕ) (cur acc : ℕ → Row) (l : ℕ) where
           }
 
       module _ (w : ℕ) (lw : w < vars) where
-        load-forced : ruleHolds vars (loadRule w x′ y′) ≡ true → Met (Load (record { 0 = w })) x′
+        load-forced : ruleHolds vars (loadRule w x′ y′) ≡ true → Met P vars cur l (Load (record { 0 = w })) x′
         unfolding loadRule
         load-forced h = loaded-forced vars x x′ y y′ u v w lw (held vars (loadRule w x′ y′) h .1 .0)
 
-        load-holds : ruleHolds vars (loadRule w x′ y′) ≡ true → Met (Load (record { 0 = w })) x → ruleHolds vars (loadRule w x y) ≡ true
+        load-holds : ruleHolds vars (loadRule w x′ y′) ≡ true → Met P vars cur l (Load (record { 0 = w })) x → ruleHolds vars (loadRule w x y) ≡ true
         unfolding loadRule
         load-holds h m = holds vars (loadRule w x y) refl (loaded-holds vars x x′ y y′ u v w lw (held vars (loadRule w x′ y′) h .1 .0) m, tt)
 
-        store-forced : ruleHolds vars (storeRule w x′ y′) ≡ true → Met (Store (record { 0 = w })) x′
+        store-forced : ruleHolds vars (storeRule w x′ y′) ≡ true → Met P vars cur l (Store (record { 0 = w })) x′
         unfolding storeRule
         store-forced h =
             let k = held vars (storeRule w x′ y′) h in
             let t : mayGo (x′ .variable w) ≡ true = and-snd (leb 1 (x′ .depth)) _ (k .0) in
             stored-forced vars x x′ y y′ u v w lw (leb-true 1 (x′ .depth) (and-fst _ _ (k .0))) (k .1 .0) (goes-forced (x′ .variable w) t)
 
-        store-holds : ruleHolds vars (storeRule w x′ y′) ≡ true → Met (Store (record { 0 = w })) x → ruleHolds vars (storeRule w x y) ≡ true
+        store-holds : ruleHolds vars (storeRule w x′ y′) ≡ true → Met P vars cur l (Store (record { 0 = w })) x → ruleHolds vars (storeRule w x y) ≡ true
         unfolding storeRule
         store-holds h m =
             let k = held vars (storeRule w x′ y′) h in
@@ -195,11 +192,11 @@ module _ (P : Program) (vars : ℕ) (cur acc : ℕ → Row) (l : ℕ) where
             (and-both _ _ (le-leb 1 (x .depth) e) (goes-holds (u .variable w lw) t (stored-old vars x x′ y y′ u v w lw d (k .1 .0) m)))
             (stored-holds vars x x′ y y′ u v w lw d (k .1 .0) m, tt)
 
-        exit-forced : ruleHolds vars (exitRule w x′ y′) ≡ true → Met (Exit (record { 0 = w })) x′
+        exit-forced : ruleHolds vars (exitRule w x′ y′) ≡ true → Met P vars cur l (Exit (record { 0 = w })) x′
         unfolding exitRule
         exit-forced h = moved-forced vars x x′ y y′ u v w lw (wantExited (y .variable w)) (wantExited (y′ .variable w)) (exited-lower (v .variable w lw)) (held vars (exitRule w x′ y′) h .1 .0)
 
-        exit-holds : ruleHolds vars (exitRule w x′ y′) ≡ true → Met (Exit (record { 0 = w })) x → ruleHolds vars (exitRule w x y) ≡ true
+        exit-holds : ruleHolds vars (exitRule w x′ y′) ≡ true → Met P vars cur l (Exit (record { 0 = w })) x → ruleHolds vars (exitRule w x y) ≡ true
         unfolding exitRule
         exit-holds h m =
             let k = held vars (exitRule w x′ y′) h in
@@ -248,7 +245,7 @@ module _ (P : Program) (vars : ℕ) (cur acc : ℕ → Row) (l : ℕ) where
         abbrev z′ : Row
         z′ = acc a
 
-        if-forced : ruleHolds vars (ifRule x′ y′ z′) ≡ true → Met (If (record { 0 = a })) x′
+        if-forced : ruleHolds vars (ifRule x′ y′ z′) ≡ true → Met P vars cur l (If (record { 0 = a })) x′
         unfolding ifRule
         if-forced h =
             let k = held vars (ifRule x′ y′ z′) h in
@@ -262,7 +259,7 @@ module _ (P : Program) (vars : ℕ) (cur acc : ℕ → Row) (l : ℕ) where
               stack = λ j r. both-has _ _ (x′ .stack j) (p .stack j r) (q .stack j r);
             }
 
-        if-holds : ruleHolds vars (ifRule x′ y′ z′) ≡ true → Met (If (record { 0 = a })) x → ruleHolds vars (ifRule x y z) ≡ true
+        if-holds : ruleHolds vars (ifRule x′ y′ z′) ≡ true → Met P vars cur l (If (record { 0 = a })) x → ruleHolds vars (ifRule x y z) ≡ true
         unfolding ifRule
         if-holds h m =
             let k = held vars (ifRule x′ y′ z′) h in
@@ -279,7 +276,7 @@ module _ (P : Program) (vars : ℕ) (cur acc : ℕ → Row) (l : ℕ) where
         abbrev X : ℕ
         X = P .exception
 
-        new-forced : (c : ℕ) → ruleHolds vars (newRule vars X c h x′ y′ (acc h)) ≡ true → Met (New c (record { 0 = h })) x′
+        new-forced : (c : ℕ) → ruleHolds vars (newRule vars X c h x′ y′ (acc h)) ≡ true → Met P vars cur l (New c (record { 0 = h })) x′
         unfolding newRule
         new-forced c r =
             let k = held vars (newRule vars X c h x′ y′ (acc h)) r in
@@ -290,7 +287,7 @@ module _ (P : Program) (vars : ℕ) (cur acc : ℕ → Row) (l : ℕ) where
               stack = λ j s. both-has _ _ (x′ .stack j) (p .stack j s) (q .stack j s);
             }
 
-        new-holds : (c : ℕ) → ruleHolds vars (newRule vars X c h x′ y′ (acc h)) ≡ true → Met (New c (record { 0 = h })) x → ruleHolds vars (newRule vars X c h x y (cur h)) ≡ true
+        new-holds : (c : ℕ) → ruleHolds vars (newRule vars X c h x′ y′ (acc h)) ≡ true → Met P vars cur l (New c (record { 0 = h })) x → ruleHolds vars (newRule vars X c h x y (cur h)) ≡ true
         unfolding newRule
         new-holds c r m =
             let k = held vars (newRule vars X c h x′ y′ (acc h)) r in
@@ -299,7 +296,7 @@ module _ (P : Program) (vars : ℕ) (cur acc : ℕ → Row) (l : ℕ) where
             holds vars (newRule vars X c h x y (cur h)) (f .0) (g, f .1)
 
         module _ (i : ℕ) (li : i < vars) where
-          enter-forced : ruleHolds vars (enterRule vars X i h x′ y′ (acc h)) ≡ true → Met (Enter (record { 0 = i }) (record { 0 = h })) x′
+          enter-forced : ruleHolds vars (enterRule vars X i h x′ y′ (acc h)) ≡ true → Met P vars cur l (Enter (record { 0 = i }) (record { 0 = h })) x′
           unfolding enterRule
           enter-forced r =
               let k = held vars (enterRule vars X i h x′ y′ (acc h)) r in
@@ -311,7 +308,7 @@ module _ (P : Program) (vars : ℕ) (cur acc : ℕ → Row) (l : ℕ) where
                 stack = λ j s. null-has _ _ (x′ .stack j) (x .variable i) (λ t. p t .stack j s) (q .stack j s);
               }
 
-          enter-holds : ruleHolds vars (enterRule vars X i h x′ y′ (acc h)) ≡ true → Met (Enter (record { 0 = i }) (record { 0 = h })) x → ruleHolds vars (enterRule vars X i h x y (cur h)) ≡ true
+          enter-holds : ruleHolds vars (enterRule vars X i h x′ y′ (acc h)) ≡ true → Met P vars cur l (Enter (record { 0 = i }) (record { 0 = h })) x → ruleHolds vars (enterRule vars X i h x y (cur h)) ≡ true
           unfolding enterRule
           enter-holds r m =
               let k = held vars (enterRule vars X i h x′ y′ (acc h)) r in
@@ -328,7 +325,7 @@ module _ (P : Program) (vars : ℕ) (cur acc : ℕ → Row) (l : ℕ) where
           abbrev d : ℕ
           d = P .method c .field f
 
-          get-forced : ruleHolds vars (getRule vars X c d h x′ y′ (acc h)) ≡ true → Met (Get c f (record { 0 = h })) x′
+          get-forced : ruleHolds vars (getRule vars X c d h x′ y′ (acc h)) ≡ true → Met P vars cur l (Get c f (record { 0 = h })) x′
           unfolding getRule ownerGoes
           get-forced r =
               let k = held vars (getRule vars X c d h x′ y′ (acc h)) r in
@@ -343,7 +340,7 @@ module _ (P : Program) (vars : ℕ) (cur acc : ℕ → Row) (l : ℕ) where
                 stack = λ j s. null-has _ _ (x′ .stack j) (x .stack 0) (λ t. p t .stack j s) (q .stack j s);
               }
 
-          get-holds : ruleHolds vars (getRule vars X c d h x′ y′ (acc h)) ≡ true → Met (Get c f (record { 0 = h })) x → ruleHolds vars (getRule vars X c d h x y (cur h)) ≡ true
+          get-holds : ruleHolds vars (getRule vars X c d h x′ y′ (acc h)) ≡ true → Met P vars cur l (Get c f (record { 0 = h })) x → ruleHolds vars (getRule vars X c d h x y (cur h)) ≡ true
           unfolding getRule ownerGoes
           get-holds r m =
               let k = held vars (getRule vars X c d h x′ y′ (acc h)) r in
@@ -360,7 +357,7 @@ module _ (P : Program) (vars : ℕ) (cur acc : ℕ → Row) (l : ℕ) where
               (and-both _ _ (and-both _ _ (le-leb 1 (x .depth) e) (and-both _ _ (may-be-under (u .stack 0 e) c i) (goes-holds (u .stack 0 e) o top))) (p .0))
               (replaced-holds vars x x′ y y′ u v (fieldEntry d) (leb-true 1 (x′ .depth) b) (k .1 .0) n, p .1)
 
-          put-forced : ruleHolds vars (putRule vars X c d h x′ y′ (acc h)) ≡ true → Met (Put c f (record { 0 = h })) x′
+          put-forced : ruleHolds vars (putRule vars X c d h x′ y′ (acc h)) ≡ true → Met P vars cur l (Put c f (record { 0 = h })) x′
           unfolding putRule ownerGoes
           put-forced r =
               let k = held vars (putRule vars X c d h x′ y′ (acc h)) r in
@@ -376,7 +373,7 @@ module _ (P : Program) (vars : ℕ) (cur acc : ℕ → Row) (l : ℕ) where
                 stack = λ j s. null-has _ _ (x′ .stack j) (x .stack 1) (λ t. p t .stack j s) (q .stack j s);
               }
 
-          put-holds : ruleHolds vars (putRule vars X c d h x′ y′ (acc h)) ≡ true → Met (Put c f (record { 0 = h })) x → ruleHolds vars (putRule vars X c d h x y (cur h)) ≡ true
+          put-holds : ruleHolds vars (putRule vars X c d h x′ y′ (acc h)) ≡ true → Met P vars cur l (Put c f (record { 0 = h })) x → ruleHolds vars (putRule vars X c d h x y (cur h)) ≡ true
           unfolding putRule ownerGoes
           put-holds r m =
               let k = held vars (putRule vars X c d h x′ y′ (acc h)) r in
@@ -397,7 +394,7 @@ module _ (P : Program) (vars : ℕ) (cur acc : ℕ → Row) (l : ℕ) where
               (and-both _ _ (may-be-under (u .stack 1 (omega arith)) c i) (goes-holds (u .stack 1 (omega arith)) o (top 1 (omega arith))))) (p .0))
               (popped-holds vars x x′ y y′ u v 2 (leb-true 2 (x′ .depth) b) (k .1 .0) n, p .1)
 
-  -- THEOREM: every instruction that keeps to the table, whatever the rows
+  -- every instruction that keeps to the table, whatever the rows
   module _ (classes : ℕ) (fields : ℕ → ℕ) (code : ℕ) (low : 1 ≤ l) (high : l ≤ code) (rows : (m : ℕ) → 1 ≤ m → m ≤ code → UnderRow vars (cur m) (acc m)) where
     here : UnderRow vars x x′
     here = rows l low high

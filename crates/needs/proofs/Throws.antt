@@ -14,8 +14,9 @@ use Rattle.matching.specs.Matching.{under, pushed, emptied, wants, edge, varsGo
 use Rattle.rules.specs.Rules.{uncaughtGoes, thrown, made, failureGoes, failureThrown, nullGoes, nullThrown}
 use Rattle.rules.proofs.Held.{Meets, Fits, AllFit}
 use Rattle.needs.specs.Needs.{fitting, gone, kept, thrownVar, thrownTop}
-use Rattle.needs.proofs.Entries.{Under, same, Has, nullable-under, want-lower, meets-forced, meets-holds, goes-forced, goes-holds}
-use Rattle.needs.proofs.Rows.{UnderRow, AllHave, kept-forced, kept-holds, vars-gone, vars-go, stack-gone, stack-goes}
+use Rattle.needs.specs.Exactly.{Under, same, UnderRow, Has, AllHave}
+use Rattle.needs.proofs.Entries.{nullable-under, want-lower, meets-forced, meets-holds, goes-forced, goes-holds}
+use Rattle.needs.proofs.Rows.{kept-forced, kept-holds, vars-gone, vars-go, stack-gone, stack-goes}
 
 module _ (vars : ℕ) (x x′ : Row) (u : UnderRow vars x x′) (h : ℕ) (z z′ : Row) (w : (h ≡ 0 → ⊥) → UnderRow vars z z′) where
   handled : (eqb h 0 ≡ false) → UnderRow vars z z′

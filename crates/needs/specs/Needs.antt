@@ -1,4 +1,4 @@
--- Document 02, Q-5: what the rules ask of the pairs of row l, entry by entry, read off what they want of the rows that follow. `proofs/Rules` shows that this is exactly what they ask of pairs; no promise speaks of it.
+-- Document 02, Q-5: what the rules ask of the pairs of row l, entry by entry, read off what they want of the rows that follow. That this is exactly what they ask of pairs is stated in `Exactly`; no promise speaks of it.
 -- x is row l, y is row l+1, z the target's or the handler's row. What is no reference weighs (0,0), so that one number serves for every kind of next entry.
 use mathlib.Core.Bool.{cond}
 use Prim.Native.Nat.{ℕ, suc, _+_, _-_}
