@@ -8,10 +8,10 @@ use native.Mathlib.Omega.{arith}
 use native.Mathlib.Decide.{ℕ-discrete, decLt}
 use lib.ListN.{length}
 use lib.Dec.{leb, eqb}
-use borrow.Author.Tests.{leb-true, leb-false, le-leb, eqb-true, not-false}
+use borrow.Author.Tests.{leb-true, le-leb, eqb-true, not-false}
 use Rattle.ground.specs.Bytes.{at, part}
 use Rattle.ground.specs.Bounded.{allBelow}
-use Rattle.ground.proofs.Bools.{and-fst, and-snd, or-right, or-false-fst, or-false-snd}
+use Rattle.ground.proofs.Bools.{and-fst, and-snd, or-right}
 use Rattle.ground.proofs.Bounded.{all-elim}
 use Rattle.ground.proofs.Bytes.{part-at, part-length}
 use Rattle.ground.proofs.Chain.{then-elim, went-on}
@@ -28,7 +28,7 @@ use Rattle.rows.specs.Rows.{rowStart}
 use Rattle.forms.specs.Forms.{rowFormed}
 use Rattle.verifier.specs.Places.{form}
 use Rattle.shape.specs.PairBytes.{placeIn, placeOf, depthOf, InUse, Reference, PairByte}
-use Rattle.shape.specs.Shape.{rowAside}
+use Rattle.shape.specs.Shape.{rowAside, shapeVerdict}
 use Rattle.shape.specs.Apart.{apart, apartFrom, lowerApart, directoryApart, classApart, allApart, Readable}
 use Rattle.shape.proofs.FirstBroken.{shape-zero, shape-parts}
 use Rattle.shape.proofs.Places.{place-low, place-high, depth-high, place-once, depth-alone}
@@ -49,21 +49,13 @@ module _ (y : List ℕ) (k : Class) (f : k .offset + size k ≤ length y - 8) wh
   pub part-long : length (partOf y k) ≡ size k
   part-long = rw part-is (part-length y (k .offset) (k .offset + size k) (omega arith) (omega arith) ∙ omega arith)
 
--- where 23 is given, a byte is in common: neither part is empty
-pub shares : (a m e n : ℕ) → apart a m e n ≡ false → 0 < m → 0 < n → (p : ℕ) × (a ≤ p) × (p < a + m) × (e ≤ p) × (p < e + n)
-unfolding apart
-shares a m e n h i j =
-    let x : e < a + m = leb-false (a + m) e (or-false-fst _ _ h) in
-    let y : a < e + n = leb-false (e + n) a (or-false-snd (leb (a + m) e) _ h) in
-    go x y (decLt a e)
-  where
-    go : e < a + m → a < e + n → Dec (a < e) → (p : ℕ) × (a ≤ p) × (p < a + m) × (e ≤ p) × (p < e + n)
-    go x y (yes k) = (e, omega arith, omega arith, omega arith, omega arith)
-    go x y (no k) = (a, omega arith, omega arith, omega arith, omega arith)
+-- past 1 to 8, pair bytes aside, is past 1 to 7
+pub structured : (b : List ℕ) → isBad (shapeVerdict b) ≡ false → structureOf b .number ≡ 0
+structured b s = eqb-true _ 0 (not-false (eqb (structureOf b .number) 0) (then-elim isBad (structureOf b) _ (rw (shape-parts b) at s) .0))
 
 module _ (b : List ℕ) (R : Readable b) where
   pub good : structureOf b .number ≡ 0
-  good = eqb-true _ 0 (not-false (eqb (structureOf b .number) 0) (then-elim isBad (structureOf b) _ (rw (shape-parts b) at (R .shaped)) .0))
+  good = structured b (R .shaped)
 
   -- every row is well formed, pair bytes aside
   pub row-shaped : (c l : ℕ) → c < classes b → 1 ≤ l → l ≤ classAt b c .code
@@ -104,7 +96,7 @@ module _ (b : List ℕ) (R : Readable b) where
   abbrev Inside : ℕ → ℕ → Type 0
   Inside c p = (classAt b c .offset ≤ p) × (p < classAt b c .offset + size (classAt b c))
 
-  not-both : (c p : ℕ) → c < classes b → Inside c p → directoryAt b ≤ p → p < directoryAt b + 8 * classes b → ⊥
+  pub not-both : (c p : ℕ) → c < classes b → Inside c p → directoryAt b ≤ p → p < directoryAt b + 8 * classes b → ⊥
   unfolding classApart directoryApart
   not-both c p l i j k = apart-never _ _ _ _ p (and-fst _ _ (apart-class c l)) (i .0) (i .1) j k
 
@@ -114,7 +106,7 @@ module _ (b : List ℕ) (R : Readable b) where
       let h : allBelow c (apartFrom b (classAt b c)) ≡ true = search (and-snd, apart-class c l) in
       apart-never _ _ _ _ p (all-elim (apartFrom b (classAt b c)) c h d m) (i .0) (i .1) (j .0) (j .1)
 
-  same-class : (c d p : ℕ) → c < classes b → d < classes b → Inside c p → Inside d p → d ≡ c
+  pub same-class : (c d p : ℕ) → c < classes b → d < classes b → Inside c p → Inside d p → d ≡ c
   same-class c d p l m i j = go (ℕ-discrete d c) (decLt d c)
     where
       go : Dec (d ≡ c) → Dec (d < c) → d ≡ c

@@ -1,4 +1,5 @@
 pub mod PairBytes
 pub mod Shape
 pub mod Apart
+pub mod Sharing
 pub mod Loops
