@@ -1,7 +1,7 @@
 -- The C call that works the pairs out: its number and what it leaves are one result.
-use mathlib.Core.Path.{_≡_, sym, ap, _∙_}
+use mathlib.Core.Path.{sym, ap, _∙_}
 use Rattle.pairs.proofs.Works.{one-answer}
-use Rattle.exports.specs.Filling.{packedFilled, FillGives, OneFilling}
+use Rattle.exports.specs.Filling.{packedFilled, OneFilling}
 
 -- THEOREM: two results of one bundle, with what they leave in it, are equal
 pub one-filling : OneFilling
