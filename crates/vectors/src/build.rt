@@ -1,9 +1,9 @@
 // Writes a bundle part by part: each function puts its bytes at a place of the lent buffer and gives back the place after them.
-// Nothing is written past the buffer's end.
+// Nothing is written past the buffer's first half.
 use crate::grammar::Step;
 
-// Room for one byte more than a bundle may have.
-pub(crate) type Buffer = [u8; 65536];
+// Room for one byte more than a bundle may have, and as much again for what `fill` leaves of it.
+pub(crate) type Buffer = [u8; 131072];
 
 fn byte(b: &mut Buffer, at: usize, x: u8) -> usize {
     if at < 65536 {

@@ -4,15 +4,15 @@
 //   h is w as its two bytes; c and a are b and h that may be left out at the end of a step, and are 0 then;
 //   a digit is that number itself, and a capital its own byte; e is an entry, v a value: a word and its numbers, which end the step.
 //
-// Capitals, with their numbers in order; `build`, `states`, `runs` and `setting` have what each does:
+// Capitals, with their numbers in order; `build`, `states`, `runs`, `fillings` and `setting` have what each does:
 //
 //   W bytes: place, how many times, the bytes; E the same, and they end the bundle; R rows: place, V, K, how many;
 //   I an instruction of `bench` or `yard`: address, the bytes; K a part of its row: address, which entry, place in the row, the bytes;
 //   D the same of the stack: the depth then ends with it;
 //   T a thread: number, live, class, address, depth; V variables and P stack places: thread, which, one (1) or all (0), value;
 //   N a count, L a held word, O the number of objects, C the class of an object, H a field place: object, field, value;
-//   M steps: thread, new fails, how many; F the fresh machine;
-//   and what is wanted: S a verdict on the structure, J the verifier's, Q a record, G what the machine gives, A how many objects a thread holds.
+//   M steps: thread, new fails, how many; F the fresh machine; X the pairs worked out;
+//   and what is wanted: S a verdict on the structure, J the verifier's, Q a record, G what the machine gives, A how many objects a thread holds, Y what working the pairs out gives.
 use crate::numbers;
 use crate::numbers::NONE;
 use crate::words;
@@ -154,11 +154,13 @@ step Mb01
 fails Mb11
 steps Mb0w
 fresh F
+fill X
 verdict Sbbw
 judge Jbbwb
 record Qbwb
 gives Gb
 holds Abbb
+filled Ybbw
 ",
         w,
     );

@@ -2,6 +2,7 @@
 // The cases are text on standard input; the text's head says how it is read.
 mod build;
 mod equal;
+mod fillings;
 mod grammar;
 mod lines;
 mod numbers;

@@ -80,7 +80,7 @@ fn laid(p: Setting, b: &mut Buffer, text: &[u8], s: &[u8], name: &[u8]) -> Setti
 
 // Whether all is as a case wants it.
 pub(crate) fn holds(text: &[u8], common: &[u8], own: &[u8], name: &[u8]) -> bool {
-    let mut b = io::large_buffer();
+    let mut b = [0u8; 131072];
     let last = last_step(own);
     let p = laid(setting::start(), &mut b, text, common, name);
     let p = laid(p, &mut b, text, words::first(own, last), name);

@@ -1,6 +1,7 @@
 // What the steps of a case come to: a bundle and a state put together, steps of the machine, and at the end what is wanted.
 use crate::build;
 use crate::build::Buffer;
+use crate::fillings;
 use crate::grammar;
 use crate::grammar::Step;
 use crate::report;
@@ -9,13 +10,16 @@ use crate::states;
 use crate::wants;
 use crate::words;
 use state::State;
+use structure::Verdict;
 use turns::Stepped;
 
-// What the steps have come to: the bundle's length, the state put together, what the machine's last step gave, and whether each was a step.
+// What the steps have come to: the bundle's length, the state put together, what the machine's last step gave, what working the pairs out gave and of how many bytes, and whether each was a step.
 pub(crate) struct Setting {
     pub length: usize,
     pub state: State,
     pub came: Stepped,
+    pub filled: Verdict,
+    pub left: usize,
     pub sound: bool,
 }
 
@@ -28,6 +32,8 @@ pub(crate) fn start() -> Setting {
             answer: 255,
             state: blank,
         },
+        filled: fillings::none(),
+        left: 0,
         sound: true,
     }
 }
@@ -56,6 +62,10 @@ fn act(p: Setting, b: &mut Buffer, r: Step) -> Setting {
             let came = runs::moved(words::first(b, p.length), p.state, of, v);
             next.came = came;
         }
+        b'X' => {
+            next.filled = fillings::fill(b, p.length);
+            next.left = p.length;
+        }
         _ => {
             let s = states::put(p.state, of, v);
             next.state = s;
@@ -65,7 +75,7 @@ fn act(p: Setting, b: &mut Buffer, r: Step) -> Setting {
 }
 
 fn is_wanted(of: u8) -> bool {
-    (of == b'S') | (of == b'J') | (of == b'Q') | (of == b'G') | (of == b'A')
+    (of == b'S') | (of == b'J') | (of == b'Q') | (of == b'G') | (of == b'A') | (of == b'Y')
 }
 
 pub(crate) fn step(p: Setting, b: &mut Buffer, s: &[u8], name: &[u8]) -> Setting {
@@ -79,7 +89,8 @@ pub(crate) fn step(p: Setting, b: &mut Buffer, s: &[u8], name: &[u8]) -> Setting
     act(p, b, r)
 }
 
-fn met(p: Setting, b: &[u8], r: Step, name: &[u8]) -> bool {
+fn met(p: Setting, whole: &Buffer, r: Step, name: &[u8]) -> bool {
+    let b = words::first(whole, p.length);
     let v = r.numbers;
     let of = r.of;
     match of {
@@ -87,6 +98,12 @@ fn met(p: Setting, b: &[u8], r: Step, name: &[u8]) -> bool {
         b'J' => wants::verdict(name, verifier::verify(b), v),
         b'Q' => wants::record(name, b, v),
         b'A' => wants::holds(name, b, p.state, v),
+        b'Y' => wants::filled(
+            name,
+            p.filled,
+            v,
+            (p.left == p.length) & fillings::same(whole),
+        ),
         _ => wants::stepped(name, p.came, p.state, v),
     }
 }
@@ -98,7 +115,7 @@ pub(crate) fn ends(p: Setting, b: &Buffer, s: &[u8], name: &[u8]) -> bool {
     }
     let r = grammar::read(s);
     if r.sound & is_wanted(r.of) {
-        return met(p, words::first(b, p.length), r, name);
+        return met(p, b, r, name);
     }
     report::wrong(name, b" wants no such thing: ", s);
     false

@@ -68,3 +68,15 @@ pub(crate) fn stepped(name: &[u8], got: Stepped, s: State, v: [u32; 16]) -> bool
     report::wrong(name, b" gives another state", b"");
     false
 }
+
+// The verdict, and whether the bundle is left as the one put together.
+pub(crate) fn filled(name: &[u8], got: Verdict, v: [u32; 16], same: bool) -> bool {
+    if !verdict(name, got, v) {
+        return false;
+    }
+    if same {
+        return true;
+    }
+    report::wrong(name, b" leaves another bundle", b"");
+    false
+}
