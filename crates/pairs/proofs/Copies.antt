@@ -12,7 +12,7 @@ use borrow.Author.Tests.{le-leb, leb-true}
 use Rattle.ground.specs.Bytes.{at}
 use Rattle.ground.specs.Bounded.{setBelow}
 use Rattle.ground.proofs.Writes.{set-zero, set-more, set-length, set-below}
-use Rattle.pairs.specs.Passes.{lesser, copied}
+use Rattle.pairs.specs.Works.{lesser, copied}
 
 module _ (src dst₀ : List ℕ) where
   pub copy-begins : dst₀ ≡ setBelow 0 (at src) dst₀

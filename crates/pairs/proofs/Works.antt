@@ -26,7 +26,8 @@ use Rattle.shape.specs.Apart.{allApart, Readable}
 use Rattle.shape.proofs.FirstBroken.{shape-parts}
 use Rattle.choices.specs.Choice.{Alike, Choice, Accepted, Below, Least}
 use Rattle.pairs.specs.Answer.{Answer, malformed, shared, none, filled, OneAnswer}
-use Rattle.pairs.specs.Passes.{Reading, Lower, Lowest, Pass, Anything, Every, Settled, Worked, copied}
+use Rattle.passes.specs.Passes.{Reading, Lower, Lowest, Cleared, Anything, Every, Settled}
+use Rattle.pairs.specs.Works.{Worked, copied}
 use Rattle.pairs.proofs.Copies.{put-back}
 use Rattle.choices.proofs.Complete.{complete}
 use Rattle.choices.proofs.Slots.{enough-still}
@@ -61,12 +62,12 @@ module _ (b : List ℕ) (R : Readable b) (bytes : (p : ℕ) → at b p < 256) wh
   unchanged : Reading b b
   unchanged = record { readable = R; bytes = bytes; alike = record { long = refl; bytes = bytes; others = λ p f. refl } }
 
-  module _ (x : List ℕ) (o : ℕ) (P : Pass Anything Every 0 b o x) where
+  module _ (x : List ℕ) (P : Cleared Anything Every b x) where
     cleared-alike : Alike b x
-    cleared-alike = P .clears refl .1 .keeps b tt unchanged .alike
+    cleared-alike = P .keeps b tt unchanged .alike
 
     low : (c l s : ℕ) → Reference b c l s → Lowest b x c l s
-    low c l s r = P .clears refl .1 .lows b tt unchanged c l s tt r
+    low c l s r = P .lows b tt unchanged c l s tt r
 
     begun : Choice b x
     begun =
@@ -98,46 +99,46 @@ module _ (b : List ℕ) (R : Readable b) (bytes : (p : ℕ) → at b p < 256) wh
     begins-lower = record { readable = R; bytes = bytes; choice = begun; below = λ y D A. under-all y D }
 
     -- ---- the end
-    module _ (o′ : ℕ) (z : List ℕ) (S : Settled x o′ z) where
+    module _ (o : ℕ) (z : List ℕ) (S : Settled x o z) where
       pub ends-lower : Lower b z
       ends-lower = S .keeps b begins-lower
 
       pub found-least : Accepted z → Least b z
       found-least A = record { choice = ends-lower .choice; accepted = A; least = ends-lower .below }
 
-      pub out-of-range : o′ ≡ 2 → (y : List ℕ) → Choice b y → Accepted y → ⊥
+      pub out-of-range : o ≡ 2 → (y : List ℕ) → Choice b y → Accepted y → ⊥
       out-of-range e = S .never e b begins-lower
 
-      pub not-accepted : o′ ≡ 0 → (Accepted z → ⊥) → (y : List ℕ) → Choice b y → Accepted y → ⊥
+      pub not-accepted : o ≡ 0 → (Accepted z → ⊥) → (y : List ℕ) → Choice b y → Accepted y → ⊥
       not-accepted e f y D A =
           f (ap (λ (v : Verdict). v .number) (complete b (ends-lower .readable) z y (ends-lower .choice) D A (ends-lower .below y D A) (enough-still b (ends-lower .readable) z (ends-lower .choice) (λ c l s r. S .met e b begins-lower c l s r))))
 
 -- ---- what the code does with it: b is kept in a store, cleared (x), settled (z)
-module _ (b store₀ store x z : List ℕ) (o o′ : ℕ) (bytes : (p : ℕ) → at b p < 256) (roomy : length b ≤ length store₀) (kept : store ≡ copied b store₀)
-    (P : Pass Anything Every 0 b o x) (S : Settled x o′ z) (done : o′ ≡ 1 → ⊥) where
+module _ (b store₀ store x z : List ℕ) (o : ℕ) (bytes : (p : ℕ) → at b p < 256) (roomy : length b ≤ length store₀) (kept : store ≡ copied b store₀)
+    (P : Cleared Anything Every b x) (S : Settled x o z) (done : o ≡ 1 → ⊥) where
   restored : (w : List ℕ) → w ≡ copied store z → w ≡ b
   restored w e = e ∙ rw kept (put-back b store₀ z (S .long ∙ P .long) roomy)
 
-  pub works-out-of-range : (w : List ℕ) → o′ ≡ 2 → w ≡ copied store z → Worked b false w
+  pub works-out-of-range : (w : List ℕ) → o ≡ 2 → w ≡ copied store z → Worked b false w
   works-out-of-range w e r =
       record {
         found = λ R f. never f refl;
         back = λ R f. restored w r;
-        nothing = λ R f. out-of-range b R bytes x o P o′ z S e;
+        nothing = λ R f. out-of-range b R bytes x P o z S e;
       }
 
-  pub works-not-accepted : (w : List ℕ) (v : Verdict) → (o′ ≡ 2 → ⊥) → v ≡ verdictOf z → (v .number ≡ 0 → ⊥) → w ≡ copied store z → Worked b false w
+  pub works-not-accepted : (w : List ℕ) (v : Verdict) → (o ≡ 2 → ⊥) → v ≡ verdictOf z → (v .number ≡ 0 → ⊥) → w ≡ copied store z → Worked b false w
   works-not-accepted w v e q h r =
       record {
         found = λ R f. never f refl;
         back = λ R f. restored w r;
-        nothing = λ R f. not-accepted b R bytes x o P o′ z S (omega (arith, S .answer)) (λ a. h (rw q a));
+        nothing = λ R f. not-accepted b R bytes x P o z S (omega (arith, S .answer)) (λ a. h (rw q a));
       }
 
   pub works : (v : Verdict) → v ≡ verdictOf z → v .number ≡ 0 → Worked b true z
   works v q h =
       record {
-        found = λ R f. found-least b R bytes x o P o′ z S (rw q at h);
+        found = λ R f. found-least b R bytes x P o z S (rw q at h);
         back = λ R f. never refl f;
         nothing = λ R f. never refl f;
       }

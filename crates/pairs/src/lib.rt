@@ -1,15 +1,18 @@
 // Document 02, Q-5: the pairs of a bundle worked out, the least that the verifier accepts.
 ghost use mathlib.Core.Path.{_≡_};
 ghost use mathlib.Core.Bool.{_&&_};
-ghost use Prim.Native.Nat.{_+_, _<_, _≤_};
+ghost use Prim.Native.Nat.{ℕ, _+_, _<_, _≤_};
 ghost use lib.Dec.{leb};
 ghost use lib.ListN.{length};
+ghost use Rattle.bundle.specs.Container.{classes};
 ghost use Rattle.bundle.specs.Program.{programOf};
 ghost use Rattle.rows.specs.Rows.{rowAt};
 ghost use Rattle.shape.specs.PairBytes.{behind, placeIn};
 ghost use Rattle.needs.specs.Needs.{greater, entryNeed};
 ghost use Rattle.pairs.specs.Answer.{Answer};
-ghost use Rattle.pairs.specs.Passes.{Raise, Clear, either, Pass, Given, GivenEntry, GivenClass, Anything, TheEntry, TheRow, TheClass, Every, Settled, Worked, lesser, copied};
+ghost use Rattle.passes.specs.Passes.{Raise, Clear, either, Raised, Cleared, GivenRow, Given, GivenEntry, Anything, TheSlot, EverySlot, TheRow, TheClass, Every, goalOf, ClassSettled, Settled};
+ghost use Rattle.passes.specs.Marks.{goals, Marked, Found, Looked};
+ghost use Rattle.pairs.specs.Works.{Worked, lesser, copied};
 use bundle::Class;
 use instructions::Addr;
 use instructions::Instruction;
@@ -105,29 +108,54 @@ fn either(o: u8, p: u8) -> u8
     if p == 0 { o } else { p }
 }
 
-// A pass over one entry: mode 0 clears its pair, 1 raises it to what is asked. 2 where that is out of range.
-fn visit_entry(b: &mut [u8], mode: u8, n: u8, c: u8, k: Class, l: u16, x: Instruction, s: u16) -> u8
+fn clear_row(b: &mut [u8], k: Class, l: u16)
+    ensures { λ o. ⌜ ((c : ℕ) → Cleared (GivenRow c k l) (TheRow c l) (now (b .entry)) (now (b .exit))) ⌝ }
+{
+    let d = rows::depth_at(k, bundle::part_of(b, k), rows::row_start(k, Addr(l)));
+    let m = k.vars as u16 + d as u16;
+    for s in 0..m {
+        clear(b, k.offset as usize + place_in(k, l, s));
+    }
+}
+
+fn clear_class(b: &mut [u8], c: u8)
+    ensures { λ o. ⌜ Cleared (λ x. c < classes x) (TheClass c) (now (b .entry)) (now (b .exit)) ⌝ }
+{
+    let k = bundle::class_at(b, c);
+    let code = k.code;
+    for i in 0..code {
+        clear_row(b, k, i + 1);
+    }
+}
+
+fn clear_all(b: &mut [u8])
+    ensures { λ o. ⌜ Cleared Anything Every (now (b .entry)) (now (b .exit)) ⌝ }
+{
+    let n = bundle::classes(b);
+    for c in 0..n {
+        clear_class(b, c);
+    }
+}
+
+// The entry s of row l is raised to what the instruction x at l asks of it.
+fn raise_entry(b: &mut [u8], n: u8, k: Class, l: u16, x: Instruction, s: u16) -> u8
     requires { ⌜ s < k .vars + 255 ⌝ }
-    ensures { λ o. ⌜ Pass (GivenEntry n c k l x s) (TheEntry c l s) mode (now (b .entry)) o (now (b .exit)) ⌝ }
+    ensures { λ o. ⌜ ((c : ℕ) → Raised (GivenEntry n c k l x s) c l (TheSlot s) (now (b .entry)) o (now (b .exit))) ⌝ }
 {
     let p = k.offset as usize + place_in(k, l, s);
-    if mode == 0 {
-        clear(b, p);
-        return 0;
-    }
     let q = entry_need(b, n, k, bundle::part_of(b, k), l, x, s);
     raise(b, p, q)
 }
 
-fn visit_row(b: &mut [u8], mode: u8, n: u8, c: u8, k: Class, l: u16) -> u8
-    ensures { λ o. ⌜ Pass (Given n c k l) (TheRow c l) mode (now (b .entry)) o (now (b .exit)) ⌝ }
+fn raise_row(b: &mut [u8], n: u8, k: Class, l: u16) -> u8
+    ensures { λ o. ⌜ ((c : ℕ) → Raised (Given n c k l) c l EverySlot (now (b .entry)) o (now (b .exit))) ⌝ }
 {
     let x = bundle::instruction_at(k, bundle::part_of(b, k), Addr(l));
     let d = rows::depth_at(k, bundle::part_of(b, k), rows::row_start(k, Addr(l)));
     let m = k.vars as u16 + d as u16;
     let mut o = 0;
     for s in 0..m {
-        let p = visit_entry(b, mode, n, c, k, l, x, s);
+        let p = raise_entry(b, n, k, l, x, s);
         o = either(o, p);
         if o == 2 {
             return 2;
@@ -136,47 +164,163 @@ fn visit_row(b: &mut [u8], mode: u8, n: u8, c: u8, k: Class, l: u16) -> u8
     o
 }
 
-// From the last row to the first, so that what a row asks is known before the rows that lead to it are asked.
-fn visit_class(b: &mut [u8], mode: u8, n: u8, c: u8) -> u8
-    ensures { λ o. ⌜ Pass (GivenClass n c) (TheClass c) mode (now (b .entry)) o (now (b .exit)) ⌝ }
+fn goal_of(x: Instruction) -> u16
+    ensures { λ o. ⌜ o ≡ goalOf x ⌝ }
+{
+    match x {
+        Instruction::Inc => 0,
+        Instruction::Pop => 0,
+        Instruction::Push0 => 0,
+        Instruction::Load(_) => 0,
+        Instruction::Store(_) => 0,
+        Instruction::If(a) => a.0,
+        Instruction::Enter(_, h) => h.0,
+        Instruction::Exit(_) => 0,
+        Instruction::New(_, h) => h.0,
+        Instruction::Start(_) => 0,
+        Instruction::Throw(h) => h.0,
+        Instruction::Return => 0,
+        Instruction::Get(_, _, h) => h.0,
+        Instruction::Put(_, _, h) => h.0,
+        Instruction::Nothing => 0,
+    }
+}
+
+// The target or handler of every address of a class.
+fn goals(k: Class, r: &[u8]) -> [u16; 257]
+    requires { ⌜ k .code ≤ 256 ⌝ }
+    ensures { λ o. ⌜ o ≡ goals k (now (r .entry)) ⌝ }
+{
+    let n = k.code + 1;
+    let mut g = [0u16; 257];
+    for l in 0..n {
+        let a = goal_of(bundle::instruction_at(k, r, Addr(l)));
+        g[l as usize] = a;
+    }
+    g
+}
+
+// The last address that has l as its target or handler, where it stands behind l: that row is the next to look at once row l has risen. Wherever the next look goes, the pairs come out the same.
+fn hints(g: &[u16], code: u16) -> [u16; 257]
+    requires { ⌜ (length (now g) ≡ 257) × (code ≤ 256) ⌝ }
+{
+    let n = code + 1;
+    let mut h = [0u16; 257];
+    for l in 0..n {
+        let a = g[l as usize];
+        if a < l {
+            h[a as usize] = l;
+        }
+    }
+    h
+}
+
+// Every address whose row reads row l is marked.
+fn mark_readers(m: &mut [bool], g: &[u16], code: u16, l: u16)
+    requires { ⌜ (length (now m) ≡ 257) × (length (now g) ≡ 257) × (code ≤ 256) × (1 ≤ l) × (l ≤ code) ⌝ }
+    ensures { λ o. ⌜ Marked (now (g .entry)) code l (now (m .entry)) (now (m .exit)) ⌝ }
+{
+    let n = code as usize + 1;
+    for i in 0..n {
+        m[i] = m[i] | (g[i] == l);
+    }
+    m[(l - 1) as usize] = true;
+}
+
+// The last marked address above floor, up to top; 0 where there is none.
+fn last_marked(m: &[bool], floor: u16, top: u16) -> u16
+    requires { ⌜ (length (now m) ≡ 257) × (top ≤ 256) ⌝ }
+    ensures { λ o. ⌜ Found (now (m .entry)) floor top o ⌝ }
+{
+    let mut l = top;
+    while floor < l {
+        if m[l as usize] {
+            return l;
+        }
+        l -= 1;
+    }
+    0
+}
+
+// A marked address, the last one up to `from` if there is one; 0 where none is left.
+fn next_marked(m: &[bool], code: u16, from: u16) -> u16
+    requires { ⌜ (length (now m) ≡ 257) × (code ≤ 256) × (from ≤ code) ⌝ }
+    ensures { λ o. ⌜ Found (now (m .entry)) 0 code o ⌝ }
+{
+    let l = last_marked(m, 0, from);
+    if l != 0 {
+        return l;
+    }
+    last_marked(m, from, code)
+}
+
+// Row l is looked at: its mark is taken away, it is raised, and where it rose the rows that read it are marked.
+fn look_at(b: &mut [u8], m: &mut [bool], g: &[u16], n: u8, k: Class, l: u16) -> u8
+    requires { ⌜ (length (now m) ≡ 257) × (length (now g) ≡ 257) × (k .code ≤ 256) × (1 ≤ l) × (l ≤ k .code) ⌝ }
+    ensures { λ o. ⌜ ((c : ℕ) → Looked n c k (now (g .entry)) l (now (m .entry)) (now (b .entry)) o (now (m .exit)) (now (b .exit))) ⌝ }
+{
+    m[l as usize] = false;
+    let o = raise_row(b, n, k, l);
+    if o != 1 {
+        return o;
+    }
+    mark_readers(m, g, k.code, l);
+    1
+}
+
+// Where the next look begins: behind a row that rose, at the last jump back to it.
+fn from(h: &[u16], code: u16, l: u16, o: u8) -> u16
+    requires { ⌜ (length (now h) ≡ 257) × (code ≤ 256) × (l ≤ code) ⌝ }
+    ensures { λ r. ⌜ r ≤ code ⌝ }
+{
+    let a = h[l as usize];
+    if o == 0 {
+        return l;
+    }
+    if a < l {
+        return l;
+    }
+    if code < a {
+        return l;
+    }
+    a
+}
+
+// The rows of a class are looked at until no mark is left (0), or a pair would have to be out of range (2).
+// The bound: after the first look at each of k rows, a row is looked at only where one of the two that it reads has risen, and a row of E entries rises at most 189 * E times. That is k + 2 * k * 189 * E looks, each at E entries and k marks: O(k²), where the source's own inference is O(k^5).
+fn settle_class(b: &mut [u8], n: u8, c: u8) -> u8
+    ensures { λ o. ⌜ ClassSettled n c (now (b .entry)) o (now (b .exit)) × (o ≡ 1 → ⊥) ⌝ }
 {
     let k = bundle::class_at(b, c);
     let code = k.code;
-    let mut o = 0;
-    for j in 0..code {
-        let p = visit_row(b, mode, n, c, k, code - j);
-        o = either(o, p);
+    if 256 < code {
+        return 0;
+    }
+    let g = goals(k, bundle::part_of(b, k));
+    let h = hints(&g, code);
+    let mut m = [true; 257];
+    let mut l = code;
+    while l != 0 {
+        let o = look_at(b, &mut m, &g, n, k, l);
         if o == 2 {
             return 2;
         }
+        l = next_marked(&m, code, from(&h, code, l, o));
     }
-    o
+    0
 }
 
-fn visit_all(b: &mut [u8], mode: u8) -> u8
-    ensures { λ o. ⌜ Pass Anything Every mode (now (b .entry)) o (now (b .exit)) ⌝ }
-{
-    let n = bundle::classes(b);
-    let mut o = 0;
-    for c in 0..n {
-        let p = visit_class(b, mode, n, c);
-        o = either(o, p);
-        if o == 2 {
-            return 2;
-        }
-    }
-    o
-}
-
-// Pass after pass until one changes nothing (0) or finds that a pair would have to be out of range (2).
+// Classes have nothing to ask of one another: each is settled by itself.
 fn settle(b: &mut [u8]) -> u8
     ensures { λ o. ⌜ Settled (now (b .entry)) o (now (b .exit)) × (o ≡ 1 → ⊥) ⌝ }
 {
-    let mut o = 1;
-    while o == 1 {
-        o = visit_all(b, 1);
+    let n = bundle::classes(b);
+    for c in 0..n {
+        if settle_class(b, n, c) == 2 {
+            return 2;
+        }
     }
-    o
+    0
 }
 
 fn lesser(a: usize, b: usize) -> usize
@@ -202,7 +346,7 @@ fn worked(b: &mut [u8]) -> bool
 {
     let mut store = [0u8; 65536];
     copy(b, &mut store);
-    visit_all(b, 0);
+    clear_all(b);
     if settle(b) == 2 {
         copy(&store, b);
         return false;

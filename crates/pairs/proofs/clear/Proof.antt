@@ -1,4 +1,4 @@
-use Rattle.pairs.specs.Passes.{other, cleared, lowest}
+use Rattle.passes.specs.Passes.{other, cleared, lowest}
 use native.Mathlib.Omega.{arith}
 use borrow.Author.Needs.{needs}
 use Rattle.pairs.proofs.clear.Statement.{statement}

@@ -1,5 +1,5 @@
 use borrow.Author.Tests.{eq-eqb, ne-eqb}
-use Rattle.pairs.specs.Passes.{either}
+use Rattle.passes.specs.Passes.{either}
 use Rattle.pairs.proofs.either.Statement.{statement}
 use Rattle.pairs.proofs.either.Tie as tie
 

@@ -1,4 +1,4 @@
-use Rattle.pairs.specs.Passes.{lesser}
+use Rattle.pairs.specs.Works.{lesser}
 use borrow.Author.Tests.{le-leb, lt-leb}
 use mathlib.Core.Path.{refl}
 use borrow.Author.Needs.{needs}

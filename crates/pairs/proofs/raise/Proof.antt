@@ -1,7 +1,7 @@
 use mathlib.Core.Logic.{inl, inr}
-use Rattle.pairs.specs.Passes.{still, over, raised, raisedTo}
+use Rattle.passes.specs.Passes.{still, over, raised, raisedTo}
 use native.Mathlib.Omega.{arith}
-use Rattle.pairs.proofs.Halves.{has-both, lacks-one}
+use Rattle.passes.proofs.Halves.{has-both, lacks-one}
 use borrow.Author.Needs.{needs}
 use Rattle.pairs.proofs.raise.Statement.{statement}
 use Rattle.pairs.proofs.raise.Tie as tie

@@ -9,7 +9,7 @@ use lib.ListN.{length, set, length-set}
 use lib.Seq.{getD-set-same, getD-set-other}
 use Rattle.ground.specs.Bytes.{at}
 use Rattle.ground.proofs.Sums.{sum-one}
-use Rattle.pairs.specs.Passes.{room}
+use Rattle.passes.specs.Passes.{room}
 
 module _ (x : List ℕ) (p v w : ℕ) (h : p + 3 < length x) where
   abbrev pub two : List ℕ
