@@ -2,11 +2,12 @@
 ghost use mathlib.Core.Path.{_≡_};
 ghost use mathlib.Core.Bool.{_&&_};
 ghost use Prim.Native.Nat.{ℕ, _+_, _<_, _≤_};
-ghost use lib.Dec.{leb};
+ghost use lib.Dec.{leb, ltb, eqb};
 ghost use lib.ListN.{length};
-ghost use Rattle.bundle.specs.Container.{classes};
+ghost use Rattle.ground.specs.Bytes.{at};
+ghost use Rattle.bundle.specs.Container.{classes, partOf};
 ghost use Rattle.bundle.specs.Program.{programOf};
-ghost use Rattle.rows.specs.Rows.{rowAt};
+ghost use Rattle.rows.specs.Rows.{rowStart, depthAt, rowAt};
 ghost use Rattle.shape.specs.PairBytes.{behind, placeIn};
 ghost use Rattle.needs.specs.Needs.{greater, entryNeed};
 ghost use Rattle.pairs.specs.Answer.{Answer};
@@ -59,17 +60,22 @@ fn larger(d: u8, q: u16) -> u8
     if (d as u16) <= q { q as u8 } else { d }
 }
 
-// The pair of the entry at place p is raised to at least q: 0 where it has as much, 1 where it is raised, 2 where that is out of range.
-fn raise(b: &mut [u8], p: usize, q: Pair) -> u8
+// A reference stands at place p, all of it.
+fn is_reference(b: &[u8], p: usize) -> bool
     requires { ⌜ p < 17179869184 ⌝ }
-    ensures { λ o. ⌜ Raise (now (b .entry)) p q o (now (b .exit)) ⌝ }
+    ensures { λ o. ⌜ o ≡ (ltb (p + 3) (length (now (b .entry))) && eqb (at (now (b .entry)) p) 3) ⌝ }
 {
     if b.len() <= p + 3 {
-        return 0;
+        return false;
     }
-    if b[p] != 3 {
-        return 0;
-    }
+    b[p] == 3
+}
+
+// The pair of the reference at place p is raised to at least q: 0 where it has as much, 1 where it is raised, 2 where that is out of range.
+fn raise(b: &mut [u8], p: usize, q: Pair) -> u8
+    requires { ⌜ (p + 3 < length (now b)) × (at (now b) p ≡ 3) ⌝ }
+    ensures { λ o. ⌜ Raise (now (b .entry)) p q o (now (b .exit)) ⌝ }
+{
     let dip = q.dip;
     let end = q.end;
     if 63 < dip {
@@ -92,10 +98,7 @@ fn clear(b: &mut [u8], p: usize)
     requires { ⌜ p < 17179869184 ⌝ }
     ensures { λ o. ⌜ Clear (now (b .entry)) p (now (b .exit)) ⌝ }
 {
-    if b.len() <= p + 3 {
-        return;
-    }
-    if b[p] != 3 {
+    if !is_reference(b, p) {
         return;
     }
     b[p + 2] = 0;
@@ -108,11 +111,18 @@ fn either(o: u8, p: u8) -> u8
     if p == 0 { o } else { p }
 }
 
+// How many entries of row l are in use: the variables, and the stack within its depth.
+fn in_use(b: &[u8], k: Class, l: u16) -> u16
+    ensures { λ o. ⌜ (o ≡ k .vars + depthAt (partOf (now (b .entry)) k) (rowStart k l) (k .vars)) × (o < k .vars + 256) ⌝ }
+{
+    let d = rows::depth_at(k, bundle::part_of(b, k), rows::row_start(k, Addr(l)));
+    k.vars as u16 + d as u16
+}
+
 fn clear_row(b: &mut [u8], k: Class, l: u16)
     ensures { λ o. ⌜ ((c : ℕ) → Cleared (GivenRow c k l) (TheRow c l) (now (b .entry)) (now (b .exit))) ⌝ }
 {
-    let d = rows::depth_at(k, bundle::part_of(b, k), rows::row_start(k, Addr(l)));
-    let m = k.vars as u16 + d as u16;
+    let m = in_use(b, k, l);
     for s in 0..m {
         clear(b, k.offset as usize + place_in(k, l, s));
     }
@@ -143,6 +153,9 @@ fn raise_entry(b: &mut [u8], n: u8, k: Class, l: u16, x: Instruction, s: u16) ->
     ensures { λ o. ⌜ ((c : ℕ) → Raised (GivenEntry n c k l x s) c l (TheSlot s) (now (b .entry)) o (now (b .exit))) ⌝ }
 {
     let p = k.offset as usize + place_in(k, l, s);
+    if !is_reference(b, p) {
+        return 0;
+    }
     let q = entry_need(b, n, k, bundle::part_of(b, k), l, x, s);
     raise(b, p, q)
 }
@@ -151,8 +164,7 @@ fn raise_row(b: &mut [u8], n: u8, k: Class, l: u16) -> u8
     ensures { λ o. ⌜ ((c : ℕ) → Raised (Given n c k l) c l EverySlot (now (b .entry)) o (now (b .exit))) ⌝ }
 {
     let x = bundle::instruction_at(k, bundle::part_of(b, k), Addr(l));
-    let d = rows::depth_at(k, bundle::part_of(b, k), rows::row_start(k, Addr(l)));
-    let m = k.vars as u16 + d as u16;
+    let m = in_use(b, k, l);
     let mut o = 0;
     for s in 0..m {
         let p = raise_entry(b, n, k, l, x, s);
@@ -221,8 +233,8 @@ fn mark_readers(m: &mut [bool], g: &[u16], code: u16, l: u16)
     ensures { λ o. ⌜ Marked (now (g .entry)) code l (now (m .entry)) (now (m .exit)) ⌝ }
 {
     let n = code as usize + 1;
-    for i in 0..n {
-        m[i] = m[i] | (g[i] == l);
+    for j in 0..n {
+        m[j] = m[j] | (g[j] == l);
     }
     m[(l - 1) as usize] = true;
 }

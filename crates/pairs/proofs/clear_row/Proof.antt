@@ -1,4 +1,4 @@
-use Prim.Native.Nat.{ℕ, _+_, _-_, _≤_}
+use Prim.Native.Nat.{ℕ, _-_, _≤_}
 use native.Mathlib.Omega.{arith}
 use Rattle.passes.specs.Passes.{Cleared}
 use Rattle.passes.proofs.Clears.{RowThen, Entries, row-begins, row-goes-on, row-ends}
@@ -7,31 +7,16 @@ use Rattle.pairs.proofs.clear_row.Statement.{statement}
 use Rattle.pairs.proofs.clear_row.Tie as tie
 
 abbrev Inv-loop : tie.InvT-loop
-Inv-loop b₀ k l d m s₀ b s = (s ≤ m) × ((c : ℕ) → Cleared (RowThen c k l b₀) (Entries c l s) b₀ b)
+Inv-loop b₀ k l m s₀ b s = (s ≤ m) × ((c : ℕ) → Cleared (RowThen c k l b₀) (Entries c l s) b₀ b)
 
 abbrev μ-loop : tie.MeasureT-loop
-μ-loop b₀ k l d m s₀ b s = m - s
+μ-loop b₀ k l m s₀ b s = m - s
 
-part-of-requires : tie.Need-part-of-requires Inv-loop μ-loop
-part-of-requires c κs = search needs
-
-row-start-requires : tie.Need-row-start-requires Inv-loop μ-loop
-row-start-requires c κs = search needs
-
-depth-at-requires : tie.Need-depth-at-requires Inv-loop μ-loop
-depth-at-requires c κs = search needs
-
-cast-m : tie.Need-cast-m Inv-loop μ-loop
-cast-m c = search needs
-
-cast-m-2 : tie.Need-cast-m-2 Inv-loop μ-loop
-cast-m-2 c = search needs
-
-add-m : tie.Need-add-m Inv-loop μ-loop
-add-m c = search needs
+in-use-requires : tie.Need-in-use-requires Inv-loop μ-loop
+in-use-requires c κs = search needs
 
 loop-holds : tie.Need-loop-holds Inv-loop μ-loop
-loop-holds c = (omega arith, row-begins (c .before .before .before .before .before .before .args .k) (c .before .before .before .before .before .before .args .l) (c .before .before .before .before .before .before .args .k .vars + c .before .depth-at .result) (c .before .before .before .before .before .before .args .b .now) (rw (← c .before .before .before .part-of .ensures .0, ← c .before .before .row-start .ensures, ← c .before .depth-at .ensures)))
+loop-holds c = (omega arith, row-begins (c .before .before .before .args .k) (c .before .before .before .args .l) (c .in-use .result) (c .before .before .before .args .b .now) (c .in-use .ensures .0))
 
 cast-clear : tie.Need-cast-clear Inv-loop μ-loop
 cast-clear c = search needs
@@ -52,13 +37,13 @@ loop-less : tie.Need-loop-less Inv-loop μ-loop
 loop-less c = search needs
 
 loop-again : tie.Need-loop-again Inv-loop μ-loop
-loop-again c = (omega (arith, c .before .before .before .before .before .before .loop-test .taken), row-goes-on (c .before .before .before .before .before .before .before .before .before .before .before .before .before .before .args .k) (c .before .before .before .before .before .before .before .before .before .before .before .before .before .before .args .l) (c .before .before .before .before .before .before .before .before .before .before .before .before .before .before .args .k .vars + c .before .before .before .before .before .before .before .before .before .depth-at .result) (c .before .before .before .before .before .before .before .before .before .before .before .before .before .before .args .b .now) (rw (← c .before .before .before .before .before .before .before .before .before .before .before .part-of .ensures .0, ← c .before .before .before .before .before .before .before .before .before .before .row-start .ensures, ← c .before .before .before .before .before .before .before .before .before .depth-at .ensures)) _ _ _ _ (c .before .before .before .before .before .before .loop-test .taken) (rw (c .before .before .before .place-in .ensures .0)) (c .before .before .before .before .before .before .before .loop .inv .1) (c .before .before .clear .ensures))
+loop-again c = (omega (arith, c .before .before .before .before .before .before .loop-test .taken), row-goes-on (c .before .before .before .before .before .before .before .before .before .before .before .args .k) (c .before .before .before .before .before .before .before .before .before .before .before .args .l) (c .before .before .before .before .before .before .before .before .in-use .result) (c .before .before .before .before .before .before .before .before .before .before .before .args .b .now) (c .before .before .before .before .before .before .before .before .in-use .ensures .0) _ _ _ _ (c .before .before .before .before .before .before .loop-test .taken) (rw (c .before .before .before .place-in .ensures .0)) (c .before .before .before .before .before .before .before .loop .inv .1) (c .before .before .clear .ensures))
 
 same-length : tie.Need-same-length Inv-loop μ-loop
 same-length c = c .before .loop .inv .1 0 .long
 
 returns : tie.Need-returns Inv-loop μ-loop
-returns c = row-ends (c .before .before .before .before .before .before .before .before .args .k) (c .before .before .before .before .before .before .before .before .args .l) (c .before .before .before .before .before .before .before .before .args .k .vars + c .before .before .before .depth-at .result) (c .before .before .before .before .before .before .before .before .args .b .now) (rw (← c .before .before .before .before .before .part-of .ensures .0, ← c .before .before .before .before .row-start .ensures, ← c .before .before .before .depth-at .ensures)) _ _ (c .loop-test .left) (c .before .loop .inv .1)
+returns c = row-ends (c .before .before .before .before .before .args .k) (c .before .before .before .before .before .args .l) (c .before .before .in-use .result) (c .before .before .before .before .before .args .b .now) (c .before .before .in-use .ensures .0) _ _ (c .loop-test .left) (c .before .loop .inv .1)
 
 pub clear-row-spec : {M : Type 1} → statement M
 clear-row-spec =
@@ -66,12 +51,7 @@ clear-row-spec =
     (tie.spec
     Inv-loop
     μ-loop
-    part-of-requires
-    row-start-requires
-    depth-at-requires
-    cast-m
-    cast-m-2
-    add-m
+    in-use-requires
     loop-holds
     cast-clear
     place-in-requires

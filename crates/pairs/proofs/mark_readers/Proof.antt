@@ -7,10 +7,10 @@ use Rattle.pairs.proofs.mark_readers.Statement.{statement}
 use Rattle.pairs.proofs.mark_readers.Tie as tie
 
 abbrev Inv-loop : tie.InvT-loop
-Inv-loop m₀ g code l n i₀ m i = (i ≤ code + 1) × MarkedBelow g i l m₀ m
+Inv-loop m₀ g code l n j₀ m j = (j ≤ code + 1) × MarkedBelow g j l m₀ m
 
 abbrev μ-loop : tie.MeasureT-loop
-μ-loop m₀ g code l n i₀ m i = code + 1 - i
+μ-loop m₀ g code l n j₀ m j = code + 1 - j
 
 add-n : tie.Need-add-n Inv-loop μ-loop
 add-n c = search needs
@@ -30,14 +30,14 @@ shared-slice-read-m c = search needs
 slice-write-m : tie.Need-slice-write-m Inv-loop μ-loop
 slice-write-m c = omega (arith, c .before .before .before .loop .inv .1 .0)
 
-add-i : tie.Need-add-i Inv-loop μ-loop
-add-i c = search needs
+add-j : tie.Need-add-j Inv-loop μ-loop
+add-j c = search needs
 
 loop-less : tie.Need-loop-less Inv-loop μ-loop
 loop-less c = search needs
 
 loop-again : tie.Need-loop-again Inv-loop μ-loop
-loop-again c = (omega arith, mark-goes-on (c .before .before .before .before .args .g .now) (c .before .before .before .before .args .l) (c .before .before .before .before .args .m .now) (c .before .before .before .loop .i) (c .before .before .before .loop .m) _ (omega arith) refl (c .before .before .before .loop .inv .1))
+loop-again c = (omega arith, mark-goes-on (c .before .before .before .before .args .g .now) (c .before .before .before .before .args .l) (c .before .before .before .before .args .m .now) (c .before .before .before .loop .j) (c .before .before .before .loop .m) _ (omega arith) refl (c .before .before .before .loop .inv .1))
 
 sub-m : tie.Need-sub-m Inv-loop μ-loop
 sub-m c = search needs
@@ -49,10 +49,10 @@ slice-write-m-2 : tie.Need-slice-write-m-2 Inv-loop μ-loop
 slice-write-m-2 c = omega (arith, c .before .loop .inv .1 .0)
 
 same-length : tie.Need-same-length Inv-loop μ-loop
-same-length c = mark-ends (c .before .before .args .g .now) (c .before .before .args .l) (c .before .before .args .m .now) (c .before .before .args .code) (c .before .loop .i) (c .before .before .args .l - 1) (c .before .loop .m) (omega (arith, c .loop-test .left)) (omega arith) (omega arith) (c .before .loop .inv .1) .long
+same-length c = mark-ends (c .before .before .args .g .now) (c .before .before .args .l) (c .before .before .args .m .now) (c .before .before .args .code) (c .before .loop .j) (c .before .before .args .l - 1) (c .before .loop .m) (omega (arith, c .loop-test .left)) (omega arith) (omega arith) (c .before .loop .inv .1) .long
 
 returns : tie.Need-returns Inv-loop μ-loop
-returns c = mark-ends (c .before .before .args .g .now) (c .before .before .args .l) (c .before .before .args .m .now) (c .before .before .args .code) (c .before .loop .i) (c .before .before .args .l - 1) (c .before .loop .m) (omega (arith, c .loop-test .left)) (omega arith) (omega arith) (c .before .loop .inv .1)
+returns c = mark-ends (c .before .before .args .g .now) (c .before .before .args .l) (c .before .before .args .m .now) (c .before .before .args .code) (c .before .loop .j) (c .before .before .args .l - 1) (c .before .loop .m) (omega (arith, c .loop-test .left)) (omega arith) (omega arith) (c .before .loop .inv .1)
 
 pub mark-readers-spec : {M : Type 1} → statement M
 mark-readers-spec =
@@ -66,7 +66,7 @@ mark-readers-spec =
     mul-m
     shared-slice-read-m
     slice-write-m
-    add-i
+    add-j
     loop-less
     loop-again
     sub-m

@@ -1,28 +1,16 @@
 use mathlib.Core.Logic.{inl, inr}
-use Rattle.passes.specs.Passes.{still, over, raised, raisedTo}
 use native.Mathlib.Omega.{arith}
+use Rattle.passes.specs.Passes.{still, over, raised, raisedTo}
 use Rattle.passes.proofs.Halves.{has-both, lacks-one}
 use borrow.Author.Needs.{needs}
 use Rattle.pairs.proofs.raise.Statement.{statement}
 use Rattle.pairs.proofs.raise.Tie as tie
 
-add-if1 : tie.Need-add-if1
-add-if1 c = search needs
-
 returns : tie.Need-returns
-returns c = still (λ h e. absurd (omega arith))
-
-slice-read-if2 : tie.Need-slice-read-if2
-slice-read-if2 c = search needs
+returns c = over (c .before .before .pre .0) (c .before .before .pre .1) (inl (c .if1 .taken))
 
 returns-2 : tie.Need-returns-2
-returns-2 c = still (λ h e. absurd (c .if2 .taken e))
-
-returns-3 : tie.Need-returns-3
-returns-3 c = over (omega arith) (c .before .if2 .left) (inl (c .if3 .taken))
-
-returns-4 : tie.Need-returns-4
-returns-4 c = over (omega arith) (c .before .before .if2 .left) (inr (c .if4 .taken))
+returns-2 c = over (c .before .before .before .pre .0) (c .before .before .before .pre .1) (inr (c .if2 .taken))
 
 add-d : tie.Need-add-d
 add-d c = search needs
@@ -39,8 +27,8 @@ slice-read-e c = search needs
 has-requires : tie.Need-has-requires
 has-requires c κs = search needs
 
-returns-5 : tie.Need-returns-5
-returns-5 c = still (λ h e. has-both _ _ _ _ _ (c .before .has .ensures) (c .if5 .taken))
+returns-3 : tie.Need-returns-3
+returns-3 c = still (λ h e. has-both _ _ _ _ _ (c .before .has .ensures) (c .if3 .taken))
 
 larger-requires : tie.Need-larger-requires
 larger-requires c κs = search needs
@@ -63,26 +51,22 @@ slice-write-b-2 c = search needs
 same-length : tie.Need-same-length
 same-length c = search needs
 
-returns-6 : tie.Need-returns-6
+returns-4 : tie.Need-returns-4
 unfolding raisedTo
-returns-6 c = rw (c .before .larger .ensures, c .larger2 .ensures) (raised (omega arith) (c .before .before .before .before .before .before .before .before .if2 .left) (omega arith) (omega arith) (lacks-one _ _ _ _ _ (c .before .before .before .has .ensures) (c .before .before .if5 .left)))
+returns-4 c = rw (c .before .larger .ensures, c .larger2 .ensures) (raised (c .before .before .before .before .before .before .before .before .before .pre .0) (c .before .before .before .before .before .before .before .before .before .pre .1) (omega arith) (omega arith) (lacks-one _ _ _ _ _ (c .before .before .before .has .ensures) (c .before .before .if3 .left)))
 
 pub raise-spec : {M : Type 1} → statement M
 raise-spec =
     tie.close
     (tie.spec
-    add-if1
     returns
-    slice-read-if2
     returns-2
-    returns-3
-    returns-4
     add-d
     slice-read-d
     add-e
     slice-read-e
     has-requires
-    returns-5
+    returns-3
     larger-requires
     add-b
     slice-write-b
@@ -90,4 +74,4 @@ raise-spec =
     add-b-2
     slice-write-b-2
     same-length
-    returns-6)
+    returns-4)
