@@ -216,6 +216,14 @@ impl<'a> Class<'a> {
         }
     }
 
+    /// Where an entry of a row stands in the bundle, by its place among the
+    /// variables and then the stack; between these is the depth.
+    pub fn entry_offset(&self, address: Addr, place: usize) -> usize {
+        let rows = self.offset + self.record.len() - self.rows.len();
+        let row = rows + (usize::from(address.0) - 1) * self.row_length();
+        row + 4 * place + usize::from(place >= self.variables)
+    }
+
     /// The first address at which the table is broken (verdict 7).
     fn table_breach(&self, classes: u8, fields: u32) -> Option<u16> {
         let bounds = Bounds::new(self.variables, classes, fields, self.code_length());

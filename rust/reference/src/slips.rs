@@ -5,6 +5,7 @@
 //! time, so that the law as written costs nothing for it.
 
 use crate::bundle::Bundle;
+use crate::fill;
 use crate::history::{History, Numbers};
 use crate::levels::Demands;
 use crate::machine::{self, answer, State};
@@ -33,8 +34,8 @@ impl Law for AsWritten {
 /// All slips in one list: the verifier's, each with the fault that a bundle
 /// let through by it leads to, the machine's, those of the held words, those of
 /// histories, those of the lock order (after some of these all threads may wait,
-/// others refuse too much or name another breach), and those of lists that are
-/// run.
+/// others refuse too much or name another breach), those of lists that are run,
+/// and those of pairs that are worked out.
 macro_rules! slips {
     (
         verifier { $($(#[$said:meta])* $judging:ident => $fault:ident,)* }
@@ -44,6 +45,7 @@ macro_rules! slips {
         standstill { $($(#[$stood:meta])* $standing:ident,)* }
         order { $($(#[$ranked:meta])* $ranking:ident,)* }
         lists { $($(#[$ran:meta])* $running:ident,)* }
+        pairs { $($(#[$found:meta])* $filling:ident,)* }
     ) => {
         /// One mistake.
         #[derive(Clone, Copy, Debug, PartialEq, Eq)]
@@ -55,6 +57,7 @@ macro_rules! slips {
             $($(#[$stood])* $standing,)*
             $($(#[$ranked])* $ranking,)*
             $($(#[$ran])* $running,)*
+            $($(#[$found])* $filling,)*
         }
 
         /// A law for each slip.
@@ -110,6 +113,13 @@ macro_rules! slips {
                     const SLIP: Option<Slip> = Some(Slip::$running);
                 }
             )*
+            $(
+                pub struct $filling;
+
+                impl Law for $filling {
+                    const SLIP: Option<Slip> = Some(Slip::$filling);
+                }
+            )*
         }
 
         impl Slip {
@@ -139,6 +149,9 @@ macro_rules! slips {
 
             /// Slips of the call that runs a list.
             pub const LISTS: [Slip; [$(Slip::$running),*].len()] = [$(Slip::$running),*];
+
+            /// Slips of the call that works the pairs out.
+            pub const PAIRS: [Slip; [$(Slip::$filling),*].len()] = [$(Slip::$filling),*];
 
             /// The fault that a bundle let through by this slip leads to; None
             /// for those that are not the verifier's.
@@ -228,6 +241,14 @@ macro_rules! slips {
                 match self {
                     $(Slip::$running => run::run_by::<laws::$running>(b, list),)*
                     _ => run::run(b, list),
+                }
+            }
+
+            /// What one who makes this slip fills in.
+            pub fn fill(self, b: &mut [u8]) -> Verdict {
+                match self {
+                    $(Slip::$filling => fill::fill_by::<laws::$filling>(b),)*
+                    _ => fill::fill(b),
                 }
             }
         }
@@ -392,5 +413,35 @@ slips! {
         RefusedIsRun,
         /// With such a bundle comes its fresh machine.
         RefusedStateIsFresh,
+    }
+    pairs {
+        /// Ends are sought from -62 on.
+        EndFromMinus62,
+        /// What references on a way round need of each other is asked once.
+        RoundOnce,
+        /// No reference needs the dip of what a handler's row has at its place.
+        HandlerKeepsDip,
+        /// load: the larger of both pairs will do, not their sum.
+        LoadNeedsLarger,
+        /// The least of which dip and end add up to 0 at least.
+        SumNotNegative,
+        /// Pair bytes that are malformed draw 8.
+        PairsLookedAt,
+        /// Unused entries have pair bytes too, which may be anything.
+        UnusedHasPair,
+        /// So has kind 4.
+        NullablePairAside,
+        /// Kind 4 gets (0,0) written.
+        NullableIsWritten,
+        /// Records that touch share a byte.
+        TouchingShares,
+        /// A record may share its bytes with the directory.
+        DirectoryShared,
+        /// 22 comes before 23.
+        NoneBeforeShared,
+        /// 23 comes before 8.
+        SharedBeforeRows,
+        /// With 22 the pairs that come nearest are written.
+        RefusedIsFilled,
     }
 }

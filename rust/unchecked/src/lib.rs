@@ -12,6 +12,8 @@ mod belongs;
 mod bundle;
 #[path = "../../reference/src/entries.rs"]
 mod entries;
+#[path = "../../reference/src/fill.rs"]
+mod fill;
 #[path = "../../reference/src/history.rs"]
 mod history;
 #[path = "../../reference/src/instructions.rs"]
@@ -23,12 +25,18 @@ mod levels;
 mod machine;
 #[path = "../../reference/src/met.rs"]
 mod met;
+#[path = "../../reference/src/needs.rs"]
+mod needs;
 #[path = "../../reference/src/order.rs"]
 mod order;
+#[path = "../../reference/src/paths.rs"]
+mod paths;
 #[path = "../../reference/src/rules.rs"]
 mod rules;
 #[path = "../../reference/src/run.rs"]
 mod run;
+#[path = "../../reference/src/shape.rs"]
+mod shape;
 #[path = "../../reference/src/slips.rs"]
 mod slips;
 #[path = "../../reference/src/state.rs"]
