@@ -22,6 +22,7 @@ mod tempt;
 mod tempt_fields;
 mod throwing;
 pub mod typed;
+pub mod unpaired;
 mod unreached;
 mod writer;
 

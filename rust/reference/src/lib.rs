@@ -8,6 +8,7 @@ pub mod belongs;
 pub mod bundle;
 pub mod entries;
 pub mod fill;
+pub mod growth;
 pub mod history;
 pub mod instructions;
 mod known;
