@@ -3,6 +3,7 @@
 mod build;
 mod check;
 mod explain;
+mod fill;
 mod levels;
 mod order;
 mod run;
@@ -27,10 +28,11 @@ struct Command {
 }
 
 /// Every command, in the order in which the help lists them.
-const COMMANDS: [Command; 8] = [
+const COMMANDS: [Command; 9] = [
     check::COMMAND,
     show::COMMAND,
     explain::COMMAND,
+    fill::COMMAND,
     order::COMMAND,
     trace::COMMAND,
     run::COMMAND,

@@ -8,8 +8,8 @@ use std::path::PathBuf;
 
 const A: &str = "cases/a.bundle";
 const B: &str = "cases/b.bundle";
-const COMMANDS: [&str; 8] = [
-    "check", "show", "explain", "order", "trace", "run", "usage", "build",
+const COMMANDS: [&str; 9] = [
+    "check", "show", "explain", "fill", "order", "trace", "run", "usage", "build",
 ];
 
 /// A file of these bytes; its name is a test's own.

@@ -4,7 +4,8 @@
 //! this crate reads the place that the verdict names once more, by the same
 //! law (docs/LAW.md), and tells what it finds there. Where it names an entry,
 //! its own comparison is the verdict's why; the tests hold that over the
-//! generator's refusals. A lock order is told by the reference's own rule.
+//! generator's refusals. A lock order is told by the reference's own rule, and
+//! why no pairs would do by the reference's own search for them.
 
 mod address;
 mod asked;
@@ -16,6 +17,7 @@ mod first;
 mod form;
 mod law;
 mod order;
+mod pairs;
 mod rule;
 mod table;
 mod words;
@@ -26,6 +28,7 @@ use std::fmt::{self, Display, Formatter};
 use words::wrapped;
 
 pub use order::nested;
+pub use pairs::explain_filling;
 
 /// What is told of a refusal: the rule, what was held against it, and what
 /// was found.
@@ -74,6 +77,8 @@ pub fn explain_ordered(bytes: &[u8], levels: &[u8], refusal: Refusal) -> Explana
         Refusal::FirstRow { class } => first::explain(&program, class),
         Refusal::Order { class, address } => order::explain(&program, levels, class, address),
         Refusal::Levels => order::explain_list(levels),
+        Refusal::Shared => pairs::shared(bytes),
+        Refusal::Pairs => pairs::none(bytes),
     }
 }
 

@@ -2,7 +2,7 @@
    `rt staticlib exports` writes. docs/LAW.md says what the numbers mean.
 
    All calls take any bytes, always come to an end and keep nothing. None writes but hveitmar_run,
-   into the bytes that are lent for it. */
+   into the bytes that are lent for it, and hveitmar_fill, into the bundle's pair bytes. */
 #ifndef HVEITMAR_H
 #define HVEITMAR_H
 
@@ -21,6 +21,12 @@ uint64_t hveitmar_verdict(const uint8_t *bundle, size_t length);
    must be of a strictly higher level than what is taken. */
 uint64_t hveitmar_ordered(const uint8_t *bundle, size_t length, const uint8_t *levels,
                           size_t level_count);
+
+/* Works the pairs of the bundle out and writes them: dip and end of every reference in use, the least
+   that the verifier accepts. What stood in their place is not looked at, and no other byte changes. The
+   number is taken apart as a verdict is: 0; 1 to 8, pair bytes aside; 23 where a record shares a byte
+   with another or with the directory; 22 where no pairs would do. With a refusal no byte changes. */
+uint64_t hveitmar_fill(uint8_t *bundle, size_t length);
 
 /* All answers of a schedule from the fresh machine, mixed into one number: each answer is added
    to 31 times what was there, modulo 2^32, and the first is the fresh machine's own. A step is
@@ -69,7 +75,8 @@ uint64_t hveitmar_run(const uint8_t *bundle, size_t length, const uint8_t *sched
 uint64_t hveitmar_usage(const uint8_t *text, size_t length);
 
 /* Of a verdict 0: accepted; 1 to 10: refused; under a lock order also 25: a lock is taken out of
-   order, and 26: there are not eight levels. Of a usage 0: read; 40 to 43: refused. */
+   order, and 26: there are not eight levels. Of pairs 0: written; 1 to 8, 22 and 23: refused. Of a
+   usage 0: read; 40 to 43: refused. */
 static inline unsigned hveitmar_number(uint64_t verdict) { return verdict & 0xFF; }
 
 /* The class of a refusal; of an accepted bundle, how many classes it has. */

@@ -1,7 +1,7 @@
 //! The C calls of the proved library; the only unsafe lines are here.
 #![allow(unsafe_code)]
 
-use crate::{Held, Met, Run, RunRefusal, Usage, UsageRefusal, Verdict, STATE_BYTES};
+use crate::{Held, Met, Refusal, Run, RunRefusal, Usage, UsageRefusal, Verdict, STATE_BYTES};
 
 extern "C" {
     fn hveitmar_verdict(bundle: *const u8, length: usize) -> u64;
@@ -11,6 +11,7 @@ extern "C" {
         levels: *const u8,
         level_count: usize,
     ) -> u64;
+    fn hveitmar_fill(bundle: *mut u8, length: usize) -> u64;
     fn hveitmar_digest(bundle: *const u8, length: usize, schedule: *const u8, steps: usize) -> u64;
     fn hveitmar_answers(
         bundle: *const u8,
@@ -86,6 +87,36 @@ pub fn verify_ordered(bundle: &[u8], levels: &[u8]) -> Verdict {
     let packed =
         unsafe { hveitmar_ordered(bundle.as_ptr(), bundle.len(), levels.as_ptr(), levels.len()) };
     Verdict::unpacked_ordered(packed).unwrap_or_else(|| panic!("{packed:x} is no verdict"))
+}
+
+/// Works the pairs of a bundle out and fills them in: dip and end of every
+/// reference in use, the least that the verifier accepts. What stood in their
+/// place is not looked at, and nothing else changes. Gives how many classes the
+/// bundle has.
+///
+/// A bundle is refused as [`verify`] does by 1 to 8, pair bytes aside; by 23 where
+/// a record shares a byte with another or with the directory; by 22 where no
+/// pairs would do. Then it stays as it is.
+///
+/// ```
+/// use hveitmar::{fill, Refusal};
+///
+/// # let folder = concat!(env!("CARGO_MANIFEST_DIR"), "/../../cases/");
+/// let bundle = std::fs::read(format!("{folder}a.bundle"))?;
+/// let mut filled = bundle.clone();
+/// // Dip and end of variable 0 in row 4.
+/// filled[65..67].fill(0);
+/// assert_eq!(fill(&mut filled), Ok(1));
+/// assert_eq!(filled, bundle);
+/// let mut other = std::fs::read(format!("{folder}b.bundle"))?;
+/// assert_eq!(fill(&mut other), Err(Refusal::Pairs));
+/// # Ok::<(), std::io::Error>(())
+/// ```
+pub fn fill(bundle: &mut [u8]) -> Result<u8, Refusal> {
+    // SAFETY: the call reads and writes no more than these bytes, to which nothing
+    // else refers, and keeps nothing.
+    let packed = unsafe { hveitmar_fill(bundle.as_mut_ptr(), bundle.len()) };
+    Verdict::unpacked_filled(packed).unwrap_or_else(|| panic!("{packed:x} is no answer of a fill"))
 }
 
 /// All answers of a schedule from the fresh machine, mixed into one number:

@@ -1,7 +1,7 @@
 //! The proved verifier and machine for Rust callers.
 //!
 //! [`verify`] judges a bundle, [`verify_ordered`] does so under a lock order,
-//! [`record`] finds a class's bytes in it, [`digest`] and [`answers`] run a
+//! [`fill`] works out the pairs that it wants, [`record`] finds a class's bytes in it, [`digest`] and [`answers`] run a
 //! schedule on it, [`run`] does so on one that is accepted and gives the state at
 //! the end, [`held`] tells how many objects a thread holds in a state of it,
 //! [`meets`] what its next step meets, [`usage`] reads a usage. All are proved to
@@ -31,7 +31,7 @@ mod verdict;
 
 pub use answer::Answer;
 pub use calls::{
-    answers, digest, held, meets, record, run, run_into, usage, verify, verify_ordered,
+    answers, digest, fill, held, meets, record, run, run_into, usage, verify, verify_ordered,
 };
 pub use held::Held;
 pub use met::Met;

@@ -89,6 +89,11 @@ pub enum Refusal {
     },
     /// 26: the list of levels is not eight bytes long.
     Levels,
+    /// 22: no pairs make the verifier accept, where they are to be filled in.
+    Pairs,
+    /// 23: a record shares a byte with another or with the directory, where
+    /// pairs are to be filled in.
+    Shared,
 }
 
 /// Why a rule fails.
@@ -130,7 +135,7 @@ impl Display for Why {
 }
 
 impl Refusal {
-    /// The document's number: 1 to 10, 25 or 26.
+    /// The document's number: 1 to 10, 22, 23, 25 or 26.
     pub fn number(&self) -> u8 {
         match self {
             Refusal::Length => 1,
@@ -145,13 +150,20 @@ impl Refusal {
             Refusal::FirstRow { .. } => 10,
             Refusal::Order { .. } => 25,
             Refusal::Levels => 26,
+            Refusal::Pairs => 22,
+            Refusal::Shared => 23,
         }
     }
 
     /// The class that the refusal names; 0 where it names none.
     pub fn class(&self) -> u8 {
         match *self {
-            Refusal::Length | Refusal::Trailer | Refusal::Directory | Refusal::Levels => 0,
+            Refusal::Length
+            | Refusal::Trailer
+            | Refusal::Directory
+            | Refusal::Levels
+            | Refusal::Pairs
+            | Refusal::Shared => 0,
             Refusal::Limits { class }
             | Refusal::Record { class }
             | Refusal::Descriptor { class }
@@ -239,6 +251,20 @@ impl Verdict {
         }
     }
 
+    /// Reads the number of the call that fills pairs in: how many classes the
+    /// bundle has, or one of 1 to 8, 22 and 23.
+    pub(crate) fn unpacked_filled(packed: u64) -> Option<Result<u8, Refusal>> {
+        match packed {
+            22 => return Some(Err(Refusal::Pairs)),
+            23 => return Some(Err(Refusal::Shared)),
+            _ => {}
+        }
+        match Verdict::unpacked(packed)?.into_result() {
+            Err(Refusal::Rule { .. } | Refusal::FirstRow { .. }) => None,
+            filled => Some(filled),
+        }
+    }
+
     /// Reads the C call's number, all of it: what is no verdict of the law is
     /// none here.
     pub(crate) fn unpacked(packed: u64) -> Option<Verdict> {
@@ -306,6 +332,29 @@ mod tests {
         }
         for stray in [25 | 1 << 32, 26 | 1 << 8, 26 | 1 << 16, 26 | 1 << 32, 27] {
             assert_eq!(Verdict::unpacked_ordered(stray), None);
+        }
+    }
+
+    #[test]
+    fn numbers_of_pairs_filled_in() {
+        let told = [
+            (8 << 8, Ok(8)),
+            (1, Err("refused 1 class 0 address 0")),
+            (8 | 3 << 8 | 256 << 16, Err("refused 8 class 3 address 256")),
+            (22, Err("refused 22 class 0 address 0")),
+            (23, Err("refused 23 class 0 address 0")),
+        ];
+        for (packed, wanted) in told {
+            let read = Verdict::unpacked_filled(packed).expect("an answer");
+            let line = read.map_err(|refusal| refusal.to_string());
+            assert_eq!(line, wanted.map_err(str::to_string));
+        }
+        let stray = [9 | 1 << 16, 10, 22 | 1 << 8, 23 | 1 << 16, 24, 25, 1 << 32];
+        for packed in stray {
+            assert_eq!(Verdict::unpacked_filled(packed), None);
+        }
+        for packed in [22, 23] {
+            assert_eq!(Verdict::unpacked(packed), None, "only of pairs");
         }
     }
 
