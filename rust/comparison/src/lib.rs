@@ -1,7 +1,9 @@
 //! The proved code held against the reference on generated inputs.
 
+pub mod choices;
 mod differences;
 pub mod digest;
+pub mod fillings;
 mod histories;
 pub mod holdings;
 pub mod lists;

@@ -28,6 +28,14 @@ fn refused(refusal: hveitmar::Refusal) -> Verdict {
     Verdict::new(refusal.number(), refusal.class(), refusal.address()).because(why)
 }
 
+/// What the proved call that fills pairs in answers.
+pub fn fill(bundle: &mut [u8]) -> Verdict {
+    match hveitmar::fill(bundle) {
+        Ok(classes) => Verdict::new(0, classes, 0),
+        Err(refusal) => refused(refusal),
+    }
+}
+
 /// What a list comes to by the proved call: the number of steps, or the verdict
 /// with which the bundle is refused; and the state's bytes.
 pub fn run(bundle: &[u8], list: &[u8]) -> (Result<u64, Verdict>, [u8; STATE_BYTES]) {

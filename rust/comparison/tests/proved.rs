@@ -4,6 +4,7 @@ use comparison::orders::{inputs, Input};
 use comparison::{digest, lists, proved};
 use generator::builder::{case_a, lay_out, Method, Row};
 use generator::families::{self, recurring, sharing, typed};
+use generator::pairs::unpaired;
 use generator::rng::Rng;
 use generator::schedule::{any_state, schedule};
 use reference::bundle::{Addr, Bundle, Instr, Verdict};
@@ -276,6 +277,21 @@ fn a_slipped_list_differs_from_the_proved_one() {
         let proved = (number, state.to_vec());
         for (slip, count) in &mut differing {
             *count += usize::from(told(&slip.run(&b, &list)) != proved);
+        }
+    }
+    assert!(differing.iter().all(|&(_, n)| n >= 10), "{differing:?}");
+}
+
+#[test]
+fn slipped_pairs_differ_from_the_proved_ones() {
+    let mut differing = Slip::PAIRS.map(|slip| (slip, 0));
+    for b in (0..4_000).map(|seed| unpaired(seed).bundle) {
+        let mut filled = b.clone();
+        let proved = proved::fill(&mut filled);
+        for (slip, count) in &mut differing {
+            let mut slipped = b.clone();
+            let told = slip.fill(&mut slipped);
+            *count += usize::from(told != proved || slipped != filled);
         }
     }
     assert!(differing.iter().all(|&(_, n)| n >= 10), "{differing:?}");

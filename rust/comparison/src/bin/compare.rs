@@ -4,6 +4,7 @@
 //! `compare [bundles] [schedules] [first seed]`; ends with status 1 if
 //! anything differs, could not be compared, or never came up.
 
+use comparison::fillings::Fillings;
 use comparison::holdings::Holdings;
 use comparison::meetings::Meetings;
 use comparison::order::Order;
@@ -21,6 +22,8 @@ use std::process::ExitCode;
 
 /// One bundle with two breaches for so many others.
 const BUNDLES_A_PAIR: u64 = 10;
+/// One bundle whose pairs are worked out for so many others.
+const BUNDLES_A_FILLING: u64 = 2;
 /// One bundle judged under lock orders for so many others: it gets several
 /// lists of levels.
 const BUNDLES_AN_ORDER: u64 = 10;
@@ -68,6 +71,10 @@ fn parts(bundles: u64, schedules: u64) -> Result<Vec<Share>, Error> {
     Ok(vec![
         (Box::new(Verdicts::around_case_a()), bundles),
         (Box::<Order>::default(), bundles.div_ceil(BUNDLES_A_PAIR)),
+        (
+            Box::<Fillings>::default(),
+            bundles.div_ceil(BUNDLES_A_FILLING),
+        ),
         (Box::<Orders>::default(), bundles.div_ceil(BUNDLES_AN_ORDER)),
         (
             Box::<Progress>::default(),

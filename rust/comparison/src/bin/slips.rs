@@ -11,17 +11,20 @@
 //! verifier accepts, under levels that it takes to do, and a schedule after
 //! which all threads wait; or a bundle and a list of levels of which it says
 //! something else. For a slip of the call that runs a list: a bundle and a list
-//! that come to something else. For a slip of the reader of usages: a text that
-//! it answers otherwise.
+//! that come to something else. For a slip of the call that works pairs out: a
+//! bundle that it answers otherwise or in which it writes something else. For a
+//! slip of the reader of usages: a text that it answers otherwise.
 
 use comparison::lists;
 use comparison::orders::{inputs, Input};
 use comparison::progress::{next_answers, stands_still};
 use generator::families::{nesting, recurring, sharing, typed};
+use generator::pairs::unpaired;
 use generator::rng::Rng;
 use generator::schedule::{any_state, Scheduler};
 use generator::texts::text;
 use reference::bundle::Bundle;
+use reference::fill::fill;
 use reference::history::History;
 use reference::machine::{answer, fresh, held_in, step_in};
 use reference::met::met_in;
@@ -49,6 +52,7 @@ fn main() -> ExitCode {
         Slip::STANDSTILL.map(|slip| (slip, (0..BUNDLES).find_map(|s| stopped(slip, s))));
     let order = Slip::ORDER.map(|slip| (slip, (0..BUNDLES).find_map(|s| misordered(slip, s))));
     let lists = Slip::LISTS.map(|slip| (slip, (0..BUNDLES).find_map(|s| misrun(slip, s))));
+    let pairs = Slip::PAIRS.map(|slip| (slip, (0..BUNDLES).find_map(|s| misfilled(slip, s))));
     let named = |(slip, found)| (format!("{slip:?}"), found);
     let reader = SLIPS.map(|(name, slipped)| {
         let found = (0..TEXTS).find_map(|seed| misread(slipped, seed));
@@ -57,7 +61,7 @@ fn main() -> ExitCode {
     let mut all_found = true;
     let all = verifier.into_iter().chain(machine).chain(words);
     let all = all.chain(histories).chain(standstill).chain(order);
-    let all = all.chain(lists).map(named);
+    let all = all.chain(lists).chain(pairs).map(named);
     for (slip, found) in all.chain(reader) {
         all_found &= found.is_some();
         println!("{slip}: {}", found.unwrap_or("not found".to_string()));
@@ -239,6 +243,20 @@ fn misrun(slip: Slip, seed: u64) -> Option<String> {
     };
     let told = format!("\"{}\" for \"{}\", {states}", told(&other), told(&truth));
     (other != truth).then(|| format!("seed {seed} {told}"))
+}
+
+/// A bundle whose pairs come out otherwise.
+fn misfilled(slip: Slip, seed: u64) -> Option<String> {
+    let b = unpaired(seed).bundle;
+    let (mut slipped, mut true_bytes) = (b.clone(), b);
+    let (other, truth) = (slip.fill(&mut slipped), fill(&mut true_bytes));
+    let mut differing = slipped.iter().zip(&true_bytes);
+    let bytes = match differing.position(|(a, b)| a != b) {
+        Some(at) => format!("byte {at} is {} for {}", slipped[at], true_bytes[at]),
+        None => "the same bytes".to_string(),
+    };
+    let told = format!("seed {seed} \"{other}\" for \"{truth}\", {bytes}");
+    (other != truth || slipped != true_bytes).then_some(told)
 }
 
 /// A text of which the slipped reader says something else.
