@@ -1,10 +1,12 @@
 //! Proved code against the reference, both in one run on the same inputs.
 //!
-//! `bench [rounds]` prints, for each input, nanoseconds a call (medians) and
-//! the ratios proved / another side: their median over the rounds, and their
-//! spread. The other sides are the reference, the same without checks of its
-//! indices, which is the limit of its algorithm, and one read of the bytes,
-//! which is memory's; of lists that are run at once, the proved single steps.
+//! `bench [rounds] [verify | run | fill]` prints, for each input or for those of
+//! one table, nanoseconds a call (medians) and the ratios proved / another side:
+//! their median over the rounds, and their spread. The other sides are the
+//! reference, the same without checks of its indices, which is the limit of its
+//! algorithm, and one read of the bytes, which is memory's; of lists that are run
+//! at once, the proved single steps; of pairs that are worked out, the proved
+//! verifier.
 
 mod flags;
 mod measure;
@@ -16,6 +18,7 @@ use generator::builder::{case_a, lay_out};
 use generator::families::sized;
 use measure::side;
 use reference::entries::Entry;
+use reference::fill::fill;
 use reference::run::run;
 use reference::verify::{verify, Verdict};
 use std::hint::black_box;
@@ -29,24 +32,40 @@ const STEPS: usize = 400;
 const LIST: usize = 500_000;
 
 fn main() {
-    let rounds = std::env::args()
-        .nth(1)
+    let mut arguments = std::env::args().skip(1);
+    let rounds = arguments
+        .next()
         .map_or(21, |a| a.parse().expect("a number"));
+    let only = arguments.next();
+    let wanted = |what: &str| only.as_ref().is_none_or(|only| only == what);
     flags::print();
     println!(
         "command: cargo run --release --offline --bin bench -- {rounds} (ratios: proved / other side, median of {rounds} rounds)"
     );
-    table::header(Last::Read);
-    verify_lines(rounds);
-    machine_lines(rounds);
-    size_lines(rounds);
-    println!(
-        "\nlists of {LIST} steps, each run by one call; ns a step, steps that wait among them. proved: \
-         hveitmar_run; Rust: the safe machine that judges once and changes one state in place; step: \
-         the first {STEPS} of the list by the proved single step, and times: step / proved"
-    );
-    table::header(Last::Steps(STEPS));
-    run_lines(rounds);
+    if wanted("verify") {
+        table::header(Last::Read);
+        verify_lines(rounds);
+        machine_lines(rounds);
+        size_lines(rounds);
+    }
+    if wanted("run") {
+        println!(
+            "\nlists of {LIST} steps, each run by one call; ns a step, steps that wait among them. proved: \
+             hveitmar_run; Rust: the safe machine that judges once and changes one state in place; step: \
+             the first {STEPS} of the list by the proved single step, and times: step / proved"
+        );
+        table::header(Last::Steps(STEPS));
+        run_lines(rounds);
+    }
+    if wanted("fill") {
+        println!(
+            "\npairs worked out, each call in a copy of the bundle that it makes first. proved: \
+             hveitmar_fill; Rust: the reference's longest paths; verify: the proved verifier on the \
+             bundle as it is filled, and times: proved / verify"
+        );
+        table::header(Last::Verify);
+        fill_lines(rounds);
+    }
 }
 
 fn verify_lines(rounds: usize) {
@@ -194,6 +213,40 @@ fn run_line(rounds: usize, name: String, bundle: Vec<u8>, list: &[u8]) {
             side(|b| proved::digest(b, black_box(first))),
         ],
         last: Last::Steps(STEPS),
+    };
+    line.print(rounds);
+}
+
+fn fill_lines(rounds: usize) {
+    fill_line(rounds, "case A", &[lay_out(&[case_a()])]);
+    fill_line(rounds, "typical", &sized::typical(2_000, 32));
+    fill_line(rounds, "full", &sized::full(8));
+    let block = sized::striped(65_000, 4, 3);
+    fill_line(rounds, "64 KB, one block again and again", &[block]);
+    let wide = sized::striped(65_000, 16, 16);
+    fill_line(rounds, "64 KB, the same with V 16, K 16", &[wide]);
+    fill_line(rounds, "64 KB, locks that grow, 22", &[sized::growing()]);
+}
+
+fn fill_line(rounds: usize, name: &str, bundles: &[Vec<u8>]) {
+    let filled = bundles.iter().map(|bundle| {
+        let (mut proved, mut reference) = (bundle.clone(), bundle.clone());
+        assert_eq!(proved::fill(&mut proved), fill(&mut reference));
+        assert_eq!(proved, reference);
+        proved
+    });
+    let filled: Vec<Vec<u8>> = filled.collect();
+    // Pairs are ignored as they come in, so a filled bundle is as much work.
+    let line = Line {
+        name: format!("fill {name}"),
+        bundles: &filled,
+        steps: 1,
+        sides: vec![
+            side(|b| u64::from(hveitmar::fill(&mut b.to_vec()).unwrap_or(0))),
+            side(|b| u64::from(fill(&mut b.to_vec()).number)),
+            side(|b| u64::from(hveitmar::verify(b).number())),
+        ],
+        last: Last::Verify,
     };
     line.print(rounds);
 }

@@ -7,7 +7,6 @@ use crate::measure::{Side, Times};
 const PROVED: usize = 0;
 const RUST: usize = 1;
 const UNCHECKED: usize = 2;
-const LAST: usize = 3;
 
 /// What the last side of a line is, if there is one.
 #[derive(Clone, Copy, PartialEq)]
@@ -17,6 +16,14 @@ pub enum Last {
     Read,
     /// So many steps, each a call of the proved machine.
     Steps(usize),
+    /// The proved verifier; there is no unchecked side beside it.
+    Verify,
+}
+
+impl Last {
+    fn has_unchecked(self) -> bool {
+        self != Last::Verify
+    }
 }
 
 /// One line: the inputs, and the sides in their places.
@@ -32,6 +39,7 @@ pub struct Line<'a> {
 /// The head of lines with this last side.
 pub fn header(last: Last) {
     let against = |side: &str| format!("{side:>12} {:>6}  {:<14}", "ratio", "min .. max");
+    let has_unchecked = last.has_unchecked();
     let last = match last {
         Last::None => String::new(),
         Last::Read => format!(
@@ -42,14 +50,18 @@ pub fn header(last: Last) {
             "{:>9} {:>6}  {:<14} {:>8}",
             "step ns", "times", "min .. max", "Msteps/s"
         ),
+        Last::Verify => format!("{:>9} {:>6}  {:<14}", "verify ns", "times", "min .. max"),
+    };
+    let unchecked = match has_unchecked {
+        true => against("unchecked ns"),
+        false => String::new(),
     };
     let line = format!(
-        "{:<47} {:>6} {:>10} {} {} {last}",
+        "{:<47} {:>6} {:>10} {} {unchecked} {last}",
         "what",
         "bytes",
         "proved ns",
         against("Rust ns"),
-        against("unchecked ns"),
     );
     println!("{}", line.trim_end());
 }
@@ -66,35 +78,48 @@ impl Line<'_> {
             let own = own / self.steps as f64;
             format!("{own:>12.1} {:>6.2}  {spread:<14}", ratio.middle)
         };
+        let unchecked = match self.last.has_unchecked() {
+            true => against(UNCHECKED),
+            false => String::new(),
+        };
         let line = format!(
-            "{:<47} {bytes:>6} {proved:>10.1} {} {} {}",
+            "{:<47} {bytes:>6} {proved:>10.1} {} {unchecked} {}",
             self.name,
             against(RUST),
-            against(UNCHECKED),
             self.last_columns(&times, bytes as f64, proved)
         );
         println!("{}", line.trim_end());
     }
 
     fn last_columns(&self, times: &Times, bytes: f64, proved: f64) -> String {
+        let last = self.sides.len() - 1;
         match self.last {
             Last::None => String::new(),
             Last::Read => format!(
                 "{:>9.1} {:>6.1} {:>8.3} {:>6.2}",
-                times.of(LAST),
-                times.ratio(PROVED, LAST).middle,
+                times.of(last),
+                times.ratio(PROVED, last).middle,
                 proved / bytes,
                 bytes / proved
             ),
             Last::Steps(steps) => {
-                let ratio = times.ratio(LAST, PROVED);
+                let ratio = times.ratio(last, PROVED);
                 let by_list = |ratio: f64| ratio * self.steps as f64 / steps as f64;
                 let spread = format!("{:.0} .. {:.0}", by_list(ratio.low), by_list(ratio.high));
                 format!(
                     "{:>9.1} {:>6.0}  {spread:<14} {:>8.1}",
-                    times.of(LAST) / steps as f64,
+                    times.of(last) / steps as f64,
                     by_list(ratio.middle),
                     1_000.0 / proved
+                )
+            }
+            Last::Verify => {
+                let ratio = times.ratio(PROVED, last);
+                let spread = format!("{:.1} .. {:.1}", ratio.low, ratio.high);
+                format!(
+                    "{:>9.1} {:>6.1}  {spread:<14}",
+                    times.of(last),
+                    ratio.middle
                 )
             }
         }

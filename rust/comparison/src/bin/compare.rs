@@ -1,8 +1,9 @@
 //! Holds the proved verifier, machine and reader of usages against the
 //! references.
 //!
-//! `compare [bundles] [schedules] [first seed]`; ends with status 1 if
-//! anything differs, could not be compared, or never came up.
+//! `compare [bundles] [schedules] [first seed] [part]`; with the name of a part
+//! only that is compared. Ends with status 1 if anything differs, could not be
+//! compared, or never came up.
 
 use comparison::fillings::Fillings;
 use comparison::holdings::Holdings;
@@ -43,14 +44,19 @@ const SCHEDULES_A_TRACE: u64 = 10;
 const SCHEDULES_A_STATED_RUN: u64 = 50;
 
 fn main() -> ExitCode {
-    let mut arguments = std::env::args()
-        .skip(1)
-        .map(|a| a.parse::<u64>().expect("a number"));
-    let bundles = arguments.next().unwrap_or(1_000_000);
-    let schedules = arguments.next().unwrap_or(100_000);
-    let first = arguments.next().unwrap_or(0);
-    println!("compare {bundles} {schedules} {first}");
-    match compare(bundles, schedules, first) {
+    let words: Vec<String> = std::env::args().skip(1).collect();
+    let number = |at: usize, usual: u64| {
+        words
+            .get(at)
+            .map_or(usual, |word| word.parse().expect("a number"))
+    };
+    let (bundles, schedules) = (number(0, 1_000_000), number(1, 100_000));
+    let (first, only) = (number(2, 0), words.get(3).map(String::as_str));
+    println!(
+        "compare {bundles} {schedules} {first} {}",
+        only.unwrap_or_default()
+    );
+    match compare(bundles, schedules, first, only) {
         Ok((0, 0)) => ExitCode::SUCCESS,
         Ok(_) => ExitCode::FAILURE,
         Err(error) => {
@@ -60,53 +66,66 @@ fn main() -> ExitCode {
     }
 }
 
-/// A part, and how many inputs it gets.
-type Share = (Box<dyn Part>, u64);
+/// A part by its name, and how many inputs it gets.
+type Share = (&'static str, Box<dyn Part>, u64);
+
+fn share<P: Part + 'static>(name: &'static str, part: P, inputs: u64, apiece: u64) -> Share {
+    (name, Box::new(part), inputs.div_ceil(apiece))
+}
 
 fn parts(bundles: u64, schedules: u64) -> Result<Vec<Share>, Error> {
     // What needs the trace program comes first, so that a lack of it is told
     // at once.
     let traces = Traces::with_program()?;
     let states = States::with_program()?;
+    let (verdicts, texts) = (Verdicts::around_case_a(), Texts::of_small_usages());
+    let fillings = Fillings::default();
     Ok(vec![
-        (Box::new(Verdicts::around_case_a()), bundles),
-        (Box::<Order>::default(), bundles.div_ceil(BUNDLES_A_PAIR)),
-        (
-            Box::<Fillings>::default(),
-            bundles.div_ceil(BUNDLES_A_FILLING),
+        share("verdicts", verdicts, bundles, 1),
+        share("order", Order::default(), bundles, BUNDLES_A_PAIR),
+        share("pairs", fillings, bundles, BUNDLES_A_FILLING),
+        share("orders", Orders::default(), bundles, BUNDLES_AN_ORDER),
+        share(
+            "progress",
+            Progress::default(),
+            schedules,
+            SCHEDULES_A_WATCHED_RUN,
         ),
-        (Box::<Orders>::default(), bundles.div_ceil(BUNDLES_AN_ORDER)),
-        (
-            Box::<Progress>::default(),
-            schedules.div_ceil(SCHEDULES_A_WATCHED_RUN),
+        share("records", Records::default(), bundles, BUNDLES_A_RECORD),
+        share("runs", Runs::default(), schedules, 1),
+        share("holdings", Holdings::default(), schedules, 1),
+        share(
+            "meetings",
+            Meetings::default(),
+            schedules,
+            SCHEDULES_A_MEETING,
         ),
-        (
-            Box::<Records>::default(),
-            bundles.div_ceil(BUNDLES_A_RECORD),
-        ),
-        (Box::<Runs>::default(), schedules),
-        (Box::<Holdings>::default(), schedules),
-        (
-            Box::<Meetings>::default(),
-            schedules.div_ceil(SCHEDULES_A_MEETING),
-        ),
-        (Box::new(traces), schedules.div_ceil(SCHEDULES_A_TRACE)),
-        (Box::new(states), schedules.div_ceil(SCHEDULES_A_STATED_RUN)),
-        (
-            Box::new(Texts::of_small_usages()),
-            bundles.div_ceil(BUNDLES_A_TEXT),
-        ),
+        share("traces", traces, schedules, SCHEDULES_A_TRACE),
+        share("states", states, schedules, SCHEDULES_A_STATED_RUN),
+        share("texts", texts, bundles, BUNDLES_A_TEXT),
     ])
 }
 
 /// How much differs, and how much never came up.
-fn compare(bundles: u64, schedules: u64, first: u64) -> Result<(u64, u64), Error> {
-    let (mut differences, mut missing) = (0, 0);
-    for (mut part, inputs) in parts(bundles, schedules)? {
+fn compare(
+    bundles: u64,
+    schedules: u64,
+    first: u64,
+    only: Option<&str>,
+) -> Result<(u64, u64), Error> {
+    let (mut differences, mut missing, mut compared) = (0, 0, 0);
+    for (name, mut part, inputs) in parts(bundles, schedules)? {
+        if only.is_some_and(|only| only != name) {
+            continue;
+        }
         (first..first + inputs).for_each(|seed| part.generated(seed));
         part.print();
         differences += part.differences();
         missing += never_seen(part.as_ref());
+        compared += 1;
+    }
+    if compared == 0 {
+        return Err(Error::other("there is no such part"));
     }
     println!("differences in all: {differences}");
     println!("never seen in all: {missing}");

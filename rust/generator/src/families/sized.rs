@@ -3,7 +3,7 @@
 use super::typed;
 use crate::builder::{lay_out, Method, Row};
 use crate::rng::Rng;
-use reference::bundle::{Addr, Instr, Var, DIRECTORY_ENTRY, TRAILER};
+use reference::bundle::{Addr, Instr, Var, DIRECTORY_ENTRY, MAX_LENGTH, TRAILER};
 use reference::entries::{kind, Entry, END_BIAS};
 use reference::verify::{verify, Verdict};
 
@@ -236,4 +236,56 @@ fn in_turn(alone: usize, threads: usize, steps: usize) -> Vec<u8> {
     (0..steps)
         .map(|step| (step.saturating_sub(alone) % threads) as u8)
         .collect()
+}
+
+/// The variables of a method whose locks grow, and how many such classes there
+/// are beside main.
+const GROWING: usize = 16;
+const GROWING_CLASSES: usize = 4;
+
+/// A bundle near the limit of 65,535 bytes of which no pairs are accepted, and
+/// which is long in showing it: each throw goes back by one address, round a way
+/// on which each variable's lock is taken once, far from the others.
+pub fn growing() -> Vec<u8> {
+    let main = Method {
+        code: vec![Instr::Return],
+        rows: vec![Row::default()],
+        ..Method::default()
+    };
+    let mut methods = vec![main];
+    let instruction = 4 + 4 * GROWING + 1 + 4;
+    let records = MAX_LENGTH - 2 * TRAILER - DIRECTORY_ENTRY * (GROWING_CLASSES + 1);
+    let length = (records / GROWING_CLASSES - GROWING) / instruction;
+    methods.extend(vec![growing_method(length); GROWING_CLASSES]);
+    lay_out(&methods)
+}
+
+fn growing_method(length: usize) -> Method {
+    let variables = [Entry::fresh(0); GROWING];
+    let mut code = vec![Instr::Load(Var(0)), Instr::Enter(Var(0), None)];
+    // Where the next throw goes back to; the first one goes to the last such place.
+    let mut back = code.len();
+    code.push(Instr::Athrow(None));
+    let apart = length / GROWING;
+    let mut entered = 1;
+    while code.len() < length {
+        let next = Some(Addr(back as u16));
+        back = code.len() + 1;
+        if entered < GROWING && code.len() + 1 >= entered * apart && code.len() + 1 < length {
+            code.push(Instr::Enter(Var(entered as u8), None));
+            entered += 1;
+        }
+        code.push(Instr::Athrow(next));
+    }
+    code[2] = Instr::Athrow(Some(Addr(back as u16)));
+    let mut rows = vec![Row::new(&variables, &[Entry::fresh(0)]); code.len()];
+    rows[0].stack.clear();
+    Method {
+        arguments: vec![0; GROWING],
+        variables: GROWING,
+        stack_limit: 1,
+        code,
+        rows,
+        ..Method::default()
+    }
 }
