@@ -24,16 +24,30 @@ pub struct Tried {
     pub accepted: u64,
 }
 
-/// The tiny bundle of a seed, if it has so many references and is not refused
-/// before its pairs are asked for; every other one has something broken.
-pub fn bundle(seed: u64, wanted: usize) -> Option<Vec<u8>> {
+/// So many tiny bundles with so many references, each with its seed: of one half
+/// the reference says that there are pairs, of the other that there are none. Every
+/// other seed has something broken.
+pub fn bundles(first: u64, references: usize, wanted: usize) -> Vec<(u64, Vec<u8>)> {
+    let of = |answer: u8, wanted: usize| {
+        let all = (first..).map(|seed| (seed, bundle(seed)));
+        all.filter(move |(_, bundle)| has(bundle, references, answer))
+            .take(wanted)
+    };
+    let filled = wanted.div_ceil(2);
+    of(0, filled).chain(of(22, wanted - filled)).collect()
+}
+
+fn bundle(seed: u64) -> Vec<u8> {
     let mut rng = Rng::new(seed);
-    let mut bundle = tiny(&mut rng).lay_out();
-    if seed % 2 == 1 {
-        bundle = damage(&mut rng, bundle);
+    let bundle = tiny(&mut rng).lay_out();
+    match seed.is_multiple_of(2) {
+        true => bundle,
+        false => damage(&mut rng, bundle),
     }
-    let asked = matches!(fill(&mut bundle.clone()).number, 0 | 22);
-    (asked && references(&bundle).len() == wanted).then_some(bundle)
+}
+
+fn has(bundle: &[u8], wanted: usize, answer: u8) -> bool {
+    references(bundle).len() == wanted && fill(&mut bundle.to_vec()).number == answer
 }
 
 impl Tried {

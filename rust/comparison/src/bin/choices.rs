@@ -4,7 +4,7 @@
 //! `choices [bundles of one reference] [of two] [first seed]`; one of two takes
 //! 66 million verdicts. Ends with status 1 where something differs.
 
-use comparison::choices::{bundle, Tried};
+use comparison::choices::{bundles as tiny_bundles, Tried};
 use std::process::ExitCode;
 
 fn main() -> ExitCode {
@@ -15,10 +15,9 @@ fn main() -> ExitCode {
     let two = arguments.next().unwrap_or(20) as usize;
     let first = arguments.next().unwrap_or(0);
     let mut same = true;
-    for (references, bundles) in [(1, one), (2, two)] {
+    for (references, wanted) in [(1, one), (2, two)] {
         let mut tried = Tried::default();
-        let seeds = (first..).filter_map(|seed| Some((seed, bundle(seed, references)?)));
-        for (seed, bundle) in seeds.take(bundles) {
+        for (seed, bundle) in tiny_bundles(first, references, wanted) {
             if let Err(difference) = tried.add(&bundle) {
                 println!("DIFFERENCE seed {seed}: {difference}");
                 same = false;
