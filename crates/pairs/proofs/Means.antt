@@ -1,31 +1,26 @@
 -- What an answer says, number by number; and that pair bytes are ignored as they come in.
 use mathlib.Core.List.{List}
 use mathlib.Core.Path.{_≡_, refl, sym, ap, _∙_}
-use mathlib.Core.Logic.{_⊎_, inl, inr}
-use mathlib.Core.Bool.{true, false}
-use Prim.Native.Nat.{ℕ, _+_, _≤_, _<_}
+use mathlib.Core.Bool.{true}
+use Prim.Native.Nat.{ℕ, _≤_, _<_}
 use native.Mathlib.Omega.{arith}
-use native.Mathlib.Decide.{ℕ-discrete}
-use lib.ListN.{length}
 use Rattle.ground.specs.Bytes.{at}
 use Rattle.ground.proofs.Bools.{never}
 use Rattle.ground.proofs.Lists.{first-in}
 use Rattle.bundle.specs.Container.{classes, classAt}
 use Rattle.structure.specs.declared.Verdict.{Verdict}
 use Rattle.structure.specs.Verdicts.{isBad}
-use Rattle.structure.specs.Structure.{structureOf}
 use Rattle.structure.specs.Places as structure
 use Rattle.verifier.specs.Places.{Place, structural, form, first, rule, drawn}
-use Rattle.verifier.specs.Verdict.{verdictOf}
 use Rattle.verifier.proofs.FirstBroken.{agrees}
 use Rattle.shape.specs.PairBytes.{placeOf, depthOf, InUse, Reference, PairByte}
 use Rattle.shape.specs.Shape.{shapeVerdict, shapeHolds, shapePlaces, ShapeWithin}
-use Rattle.shape.specs.Apart.{allApart, Readable}
+use Rattle.shape.specs.Apart.{Readable}
 use Rattle.shape.proofs.FirstBroken.{shape-judges, shape-agrees}
-use Rattle.choices.specs.Choice.{Alike, Choice, Accepted, Least}
+use Rattle.choices.specs.Choice.{Alike, Choice, Least}
 use Rattle.choices.proofs.Choices.{classes-same, class-same, depth-same, kind-same}
 use Rattle.shape.proofs.Readable.{in-row}
-use Rattle.pairs.specs.Answer.{Answer, malformed, shared, none, filled, Means, FillMeans, ShapeAsBefore, PairsIgnored}
+use Rattle.pairs.specs.Answer.{Answer, malformed, shared, none, filled, FillMeans, ShapeAsBefore, PairsIgnored}
 use Rattle.pairs.proofs.Works.{one-answer}
 
 -- ---- 1 to 8
