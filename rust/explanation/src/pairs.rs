@@ -5,7 +5,8 @@ use crate::words::{sentence, some, Place};
 use crate::{explain, Explanation};
 use hveitmar::{verify, Refusal, Verdict};
 use listing::{byte, Program};
-use reference::bundle::Bundle;
+use reference::bundle::{Addr, Bundle};
+use reference::demand::{demand, Demand, Side};
 use reference::fill::nearest;
 use reference::growth::{growth, Change, Growth};
 use reference::shape::parts;
@@ -103,7 +104,8 @@ fn extent(part: &Range<usize>) -> String {
 }
 
 /// The first place at which the least pairs, stopped at their bounds, break a
-/// rule; and a lock count that would grow without end.
+/// rule; and a lock count that would grow without end, or else along which way a
+/// pair is asked for that can't be had.
 pub fn none(bytes: &[u8]) -> Explanation {
     let rule = "No pairs make the verifier accept. With the least that are asked for, none of \
                 them above 63, this is the first rule that breaks.";
@@ -113,6 +115,7 @@ pub fn none(bytes: &[u8]) -> Explanation {
         Verdict::Accepted { .. } => None,
     });
     let grown = growth(bytes).map(|growth| grows(&growth));
+    let grown = grown.or_else(|| demand(bytes).map(|demand| demands(&demand)));
     match broken {
         Some(broken) => Explanation {
             rule: format!("{rule} {}", broken.rule),
@@ -154,4 +157,63 @@ fn grows(growth: &Growth) -> String {
          it {undone}, and no number is large enough for that: it is the lock of {place} at \
          address {first}."
     )
+}
+
+fn demands(demand: &Demand) -> String {
+    let Demand {
+        class,
+        place,
+        side,
+        wanted,
+        at_most,
+        way,
+    } = demand;
+    let side = match side {
+        Side::Dip => "a dip",
+        Side::End => "an end",
+    };
+    let place = sentence(&Place::from(*place).to_string());
+    let addresses: Vec<u16> = way.iter().map(|(address, _)| address.0).collect();
+    let at = addresses.first().copied().unwrap_or(0);
+    let done = |done: Change| -> Vec<u16> {
+        let there = way.iter().filter(|(_, change)| *change == Some(done));
+        there.map(|&(Addr(address), _)| address).collect()
+    };
+    let changes = [
+        ("taken", done(Change::Taken)),
+        ("given back", done(Change::GivenBack)),
+    ];
+    let changes = changes.iter().filter(|(_, at)| !at.is_empty());
+    let changes: Vec<String> = changes
+        .map(|(what, at)| format!("{what} at {}", runs(at)))
+        .collect();
+    let lock = match changes.is_empty() {
+        true => String::new(),
+        false => format!(", on which the lock is {}", changes.join(" and ")),
+    };
+    format!(
+        "{place} at address {at} of class {class} can have {side} of at most {at_most}, and \
+         {wanted} is asked for along the way {}{lock}.",
+        runs(&addresses)
+    )
+}
+
+/// Addresses in their order: `3 to 5, 9`.
+fn runs(addresses: &[u16]) -> String {
+    let mut runs: Vec<(u16, u16)> = vec![];
+    for &address in addresses {
+        match runs.last_mut() {
+            Some((_, last)) if *last == address => {}
+            Some((_, last)) if *last + 1 == address => *last = address,
+            _ => runs.push((address, address)),
+        }
+    }
+    let runs: Vec<String> = runs
+        .into_iter()
+        .map(|(first, last)| match first == last {
+            true => first.to_string(),
+            false => format!("{first} to {last}"),
+        })
+        .collect();
+    runs.join(", ")
 }

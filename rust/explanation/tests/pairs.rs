@@ -38,6 +38,8 @@ fn the_first_place_that_breaks() {
             "At address 1 of class 0 stands new 0.",
             "row 2 claims  Top | C0(0,1)",
             "the end is 0 and must be at least 1",
+            "The top at address 2 of class 0 can have an end of at most 0, and 1 is asked for along \
+             the way 2 to 5, 9, on which the lock is taken at 3.",
         ],
     );
     assert!(!text.contains("Each turn"), "{text}");
@@ -77,6 +79,21 @@ fn loops_that_grow() {
     has(
         &text,
         &["Each turn of the loop 3 to 5 of class 0 gives back a lock once more than it takes it"],
+    );
+}
+
+/// A new object's lock is given back: its dip would have to be 1.
+#[test]
+fn a_lock_that_is_not_held() {
+    let mut method = case_a();
+    method.code[2] = Instr::Exit(V);
+    let (_, text) = told(&lay_out(&[method]));
+    has(
+        &text,
+        &[
+            "The top at address 2 of class 0 can have a dip of at most 0, and 2 is asked for along \
+             the way 2 to 7, on which the lock is given back at 3, 6.",
+        ],
     );
 }
 

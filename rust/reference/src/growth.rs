@@ -53,15 +53,11 @@ fn grown(number: u8, class: &Class, nodes: &[Asked], change: Change) -> Option<G
     let at = |arrow: &Arrow| nodes[arrow.from as usize];
     let first = round.iter().map(at).min_by_key(|asked| asked.address)?;
     let last = round.iter().map(at).max_by_key(|asked| asked.address)?;
-    let place = usize::from(first.place);
     Some(Growth {
         class: number,
         first: Addr(first.address),
         last: Addr(last.address),
-        place: match place.checked_sub(class.variables) {
-            Some(index) => Place::Stack(index),
-            None => Place::Variable(place),
-        },
+        place: Place::numbered(usize::from(first.place), class.variables),
         more: round.iter().map(|arrow| arrow.above).sum(),
         change,
     })

@@ -6,6 +6,7 @@
 
 pub mod belongs;
 pub mod bundle;
+pub mod demand;
 pub mod entries;
 pub mod fill;
 pub mod growth;

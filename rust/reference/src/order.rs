@@ -21,6 +21,16 @@ pub enum Place {
     Stack(usize),
 }
 
+impl Place {
+    /// By its number in a row: the variables, then the stack.
+    pub fn numbered(number: usize, variables: usize) -> Place {
+        match number.checked_sub(variables) {
+            Some(index) => Place::Stack(index),
+            None => Place::Variable(number),
+        }
+    }
+}
+
 /// A lock that is taken while another may be held, by the row.
 #[derive(Clone, Copy, Debug, PartialEq, Eq)]
 pub struct Nesting {

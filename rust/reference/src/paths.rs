@@ -27,7 +27,7 @@ pub fn is_met(asked: &Asked, pairs: &[Pair]) -> bool {
 }
 
 /// What is wanted of a pair, bounds aside.
-fn wanted(asked: &Asked, pairs: &[Pair]) -> Pair {
+pub fn wanted(asked: &Asked, pairs: &[Pair]) -> Pair {
     let needs = [asked.next, asked.jump];
     needs.iter().flatten().fold(asked.at_least, |most, need| {
         let sum = sum(need, pairs);
@@ -35,7 +35,8 @@ fn wanted(asked: &Asked, pairs: &[Pair]) -> Pair {
     })
 }
 
-fn sum(need: &Need, pairs: &[Pair]) -> Pair {
+/// What a need comes to.
+pub fn sum(need: &Need, pairs: &[Pair]) -> Pair {
     let weights = need.of.iter().flatten();
     weights.fold(need.moved, |sum, &node| sum.plus(pairs[node as usize]))
 }
