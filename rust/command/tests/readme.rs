@@ -54,7 +54,9 @@ fn every_example_comes_out_as_it_stands() {
         let printed = ran.err + &ran.out;
         assert!(shows(shown, printed.trim()), "{words:?}\n{printed}");
     }
-    for command in ["check", "show", "explain", "trace", "run", "order", "usage"] {
+    for command in [
+        "check", "show", "explain", "trace", "fill", "run", "order", "usage",
+    ] {
         assert!(examples.iter().any(|(words, _)| words.starts_with(command)));
     }
 }
