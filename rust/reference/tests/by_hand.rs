@@ -4,6 +4,7 @@
 
 use reference::bundle::{find_record, Bundle, Verdict};
 use reference::entries::Entry;
+use reference::fill::fill;
 use reference::instructions::{Instr, MAX_FIELDS};
 use reference::machine::{fresh, held, step, State, Thread, Value};
 use reference::state::OBJECTS;
@@ -78,13 +79,15 @@ impl<'a> Words<'a> {
     }
 }
 
-/// A bundle and a state under way, and what the machine gave last.
+/// A bundle and a state under way, what the machine gave last, and what working
+/// the pairs out gave and left.
 #[derive(Clone)]
 struct Case {
     bytes: Vec<u8>,
     length: usize,
     state: State,
     given: Option<(u8, State)>,
+    filled: Option<(Verdict, Vec<u8>)>,
 }
 
 impl Case {
@@ -96,6 +99,7 @@ impl Case {
             length: 0,
             state,
             given: None,
+            filled: None,
         }
     }
 
@@ -219,6 +223,12 @@ impl Case {
                 self.given = Some(fresh(self.bundle()));
                 return true;
             }
+            "fill" => {
+                let mut left = self.bytes.clone();
+                let verdict = fill(&mut left[..self.length]);
+                self.filled = Some((verdict, left));
+                return true;
+            }
             "step" => (words.number(), 1, false),
             "fails" => (words.number(), 1, true),
             "steps" => (words.number(), words.number(), false),
@@ -259,6 +269,15 @@ impl Case {
                 match *state == self.state {
                     true => Ok(()),
                     false => Err("another state".to_string()),
+                }
+            }
+            "filled" => {
+                let (verdict, left) = self.filled.as_ref().expect("pairs worked out");
+                let wanted = Verdict::new(words.number(), words.number(), words.number());
+                same(*verdict, wanted)?;
+                match *left == self.bytes {
+                    true => Ok(()),
+                    false => Err("another byte".to_string()),
                 }
             }
             other => panic!("{other} is no step"),
