@@ -1,5 +1,6 @@
 // C calls on byte slices, for tests, benchmarks and Rust callers.
 mod filling;
+mod methods;
 mod runs;
 mod texts;
 
