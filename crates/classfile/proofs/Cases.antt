@@ -17,7 +17,7 @@ use Rattle.classfile.specs.declared.Taken.{Taken}
 use Rattle.classfile.specs.Attribute.{tableEnd, whole, codeOf, tableOf}
 use Rattle.classfile.specs.Written.{handlerBy, rowsOf, rowsAt, rowsTo, bytesOf, laidOver}
 use Rattle.classfile.specs.Taking.{judged, takenOf, bytesTaken, left, outOf}
-use Rattle.classfile.specs.Cases.{attribute, list, fresh, Case, cases}
+use Rattle.classfile.specs.Cases.{fresh, Case, from, firsts, cases}
 
 -- what is answered, and what every byte of the buffer holds then
 pub record Given : Type 0 where
@@ -25,10 +25,8 @@ pub record Given : Type 0 where
   pub out : List ℕ
 
 abbrev given : Case → Given
-given c =
-    let a = attribute (c .code) (c .table) in
-    record { answer = takenOf a list (c .room); out = outOf a list (fresh (c .room)) }
+given c = record { answer = takenOf (c .input) (c .classes) (c .room); out = outOf (c .input) (c .classes) (fresh (c .room)) }
 
 pub cases-hold : map given cases ≡ map (λ (c : Case). record { answer = c .answer; out = c .out }) cases
-unfolding quad firstBelow sumBelow refuse each short aloadOf iincOf javaOf widthOf rawAt rawSize uncut javaAt sizeAt isIndex classNumber leftAt begins givesAt countTo total handlerOf covers coveredBy targetOf lands strayAt firstStray strayEntry firstStrayEntry unknownAt firstUnknown pastAt firstPast tableEnd whole codeOf tableOf handlerBy rowsOf rowsAt rowsTo bytesOf laidOver judged takenOf bytesTaken left outOf
+unfolding quad firstBelow sumBelow refuse each short aloadOf iincOf javaOf widthOf rawAt rawSize uncut javaAt sizeAt isIndex classNumber leftAt begins givesAt countTo total handlerOf covers coveredBy targetOf lands strayAt firstStray strayEntry firstStrayEntry unknownAt firstUnknown pastAt firstPast tableEnd whole codeOf tableOf handlerBy rowsOf rowsAt rowsTo bytesOf laidOver judged takenOf bytesTaken left outOf from firsts
 cases-hold = refl
