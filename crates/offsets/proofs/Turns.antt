@@ -1,7 +1,7 @@
 -- The turns of the loops over the code, in the shape in which the loops ask for them: j, size, .. are what the code's calls gave.
 use mathlib.Core.Path.{_≡_, refl, sym, _∙_, ap, subst}
 use mathlib.Core.Logic.{_⊎_, inl, inr, ⊎-elim}
-use mathlib.Core.Bool.{Bool, true, false, _&&_, not}
+use mathlib.Core.Bool.{Bool, true, false, _&&_}
 use mathlib.Core.List.{List}
 use Prim.Native.Nat.{ℕ, _+_, _≤_, _<_}
 use native.Mathlib.Omega.{arith}
@@ -9,7 +9,6 @@ use native.Mathlib.Decide.{decLt}
 use lib.ListN.{length}
 use lib.Dec.{eqb}
 use borrow.Author.Tests.{eq-eqb, ne-eqb, lt-ltb, le-ltb}
-use Rattle.ground.specs.Bytes.{at}
 use Rattle.ground.specs.Bounded.{firstBelow}
 use Rattle.ground.proofs.Bounded.{first-at, first-none}
 use Rattle.ground.proofs.Bools.{never}

@@ -1,7 +1,5 @@
 // Refusal 32: a target or a handler that is not at the first byte of a taken instruction, or at a nop with nothing written after it.
 ghost use mathlib.Core.Path.{_≡_};
-ghost use Prim.Native.Nat.{_≤_, _<_};
-ghost use lib.ListN.{length};
 ghost use Rattle.offsets.specs.Offsets.{total};
 ghost use Rattle.offsets.specs.Targets.{lands, branchOk, firstStray, firstStrayEntry};
 ghost use Rattle.offsets.specs.Index.{Indexed};
