@@ -10,7 +10,8 @@ use lib.Seq.{getD-set-same, getD-set-other, set-set}
 use lib.Dec.{ltb, leb}
 use borrow.Author.Tests.{lt-ltb, le-leb, ltb-true, leb-true, leb-false, eq-eqb, ne-eqb}
 use Rattle.ground.specs.Bounded.{fillFrom}
-use Rattle.ground.proofs.Bools.{or-false-snd}
+use Rattle.ground.proofs.Bools.{and-fst, and-snd, or-false-snd}
+use Rattle.ground.proofs.Writes.{fill-length}
 use Rattle.instructions.specs.declared.Instruction.{Instruction}
 use Rattle.instructions.specs.declared.Instruction.the-variants as instruction
 use Rattle.instructions.specs.Table.{var, addr, decoded, table, find, lineOf}
@@ -21,7 +22,7 @@ use Rattle.threads.specs.declared.Thread.{Thread}
 use Rattle.threads.specs.Threads.{withAt, withStack, varOf, pushed, popped, topped, stored}
 use Rattle.threads.specs.Threads as threads
 use Rattle.state.specs.declared.State.{State}
-use Rattle.state.specs.State.{threadAt, countOf, withThread, withCount, withObject}
+use Rattle.state.specs.State.{threadAt, countOf, classOf, withThread, withCount, withObject}
 use Rattle.turns.specs.declared.Stepped.{Stepped}
 use Rattle.turns.specs.Answers.{test}
 use Rattle.turns.specs.Faults.{has, room, throwFault, pushFault, newFails}
@@ -38,10 +39,15 @@ use Rattle.java.specs.Instructions.{javaAt, sizeAt, givesOf}
 use Rattle.java.specs.Classes.{classNumber}
 use Rattle.offsets.specs.Offsets.{begins, countTo, addressOf}
 use Rattle.offsets.specs.Handlers.{entries, handlerOf, coveredBy}
-use Rattle.offsets.specs.Targets.{targetOf}
+use Rattle.offsets.specs.Targets.{targetOf, lands}
+use Rattle.offsets.proofs.Offsets.{begins-next}
+use Rattle.classfile.specs.Attribute.{codeOf, tableOf}
 use Rattle.classfile.specs.Written.{row, handlerBy, handlerFor, rowsOf}
-use Rattle.faithful.specs.Frames.{Frame, topOf, push, pop, counted, create, alone, enter, load, goes, uncaught, throws, does}
-use Rattle.faithful.specs.Faithful.{topFirst, seen, Standing, steps, told, Leaves, Faithful, IincGoes}
+use Rattle.classfile.specs.Taking.{takenOf}
+use Rattle.classfile.proofs.Meaning.{walks, succeeds}
+use Rattle.faithful.specs.Frames.{Frame, topOf, push, pop, changed, create, alone, enter, load, goes, uncaught, throws, does}
+use Rattle.faithful.specs.Faithful.{Holds, topFirst, seen, At, steps, told, Leaves, Faithful, IincGoes}
+use Rattle.faithful.proofs.Carried.{carried}
 use Rattle.faithful.proofs.Rows.{rows-at, address-in, next-address}
 use Rattle.faithful.proofs.Stacks.{above, push-top, top-of, rest-of, pushed-is, caught-is, caught-alone}
 use Rattle.faithful.proofs.Moves.{passed, Moved, step-moves, steps-none, steps-one, steps-first, steps-on, step-goes}
@@ -55,15 +61,28 @@ same-throw : (table : List ℕ) (offset : ℕ) (x y : Slot) (f : Frame) → thro
 unfolding throws
 same-throw table offset x y f = refl
 
-module _ (b classes code rescue : List ℕ) (s : State) (i p : ℕ) (S : Standing b classes code rescue s i p) where
+-- what of a taken method is used: an instruction begins where an ifne and a handler lead
+pub record Landing (code rescue : List ℕ) : Type 0 where
+  pub branch : (p d : ℕ) → p < length code → begins code p ≡ true → javaAt code p ≡ Ifne d → begins code (targetOf code p d) ≡ true
+  pub handler : (j : ℕ) → j < entries rescue → begins code (handlerOf rescue j) ≡ true
+
+module _ (b classes code rescue : List ℕ) (c : ℕ) (holds : Holds b c classes code rescue) (landing : Landing code rescue)
+    (s : State) (i p : ℕ) (S : At code c s i p) (within : p < length code) where
   abbrev t : Thread
   t = threadAt s i
 
   abbrev m : Method
   m = programOf b .method (t .class)
 
+  -- the class that the thread is in
+  abbrev Found : ℕ → Type 0
+  Found d = Holds b d classes code rescue
+
+  held : Holds b (t .class) classes code rescue
+  held = subst Found (sym (S .class)) holds
+
   abbrev Result : Stepped → Java → Bool → Type 0
-  Result r J fails = Leaves code i r (does code rescue p J fails (seen s i))
+  Result r J fails = Leaves code c i r (does classes code rescue p J fails (seen s i))
 
   -- the j-th instruction written for it
   written : (J : Java) → javaAt code p ≡ J → (j : ℕ) → j < givesOf J
@@ -71,7 +90,7 @@ module _ (b classes code rescue : List ℕ) (s : State) (i p : ℕ) (S : Standin
   written J e j k =
       let q : j < givesOf (javaAt code p) = rw e k in
       let f : t .at .0 + j ≡ countTo code p + j + 1 = omega (arith, S .address) in
-      rw f (S .holds .row-at (countTo code p + j) (address-in classes code rescue p j (S .inside) (S .begun) q) ∙ ap decoded (rows-at classes code rescue p j (row 0 0 0) (S .inside) (S .begun) q ∙ rw e))
+      rw f (held .row-at (countTo code p + j) (address-in classes code rescue p j within (S .begun) q) ∙ ap decoded (rows-at classes code rescue p j (row 0 0 0) within (S .begun) q ∙ rw e))
 
   first : (J : Java) → javaAt code p ≡ J → 0 < givesOf J → m .instruction (t .at .0) ≡ decoded (getD (rowsOf classes code rescue p J) 0 (row 0 0 0))
   first J e k =
@@ -88,25 +107,66 @@ module _ (b classes code rescue : List ℕ) (s : State) (i p : ℕ) (S : Standin
       let k = step-moves b s i x t y refl e h in
       subst (λ (r : Stepped). Result r J x) (sym (k .is)) (f k)
 
+  -- what a step keeps: the sizes, and the class that thread i, put back as w, is in
+  record Kept (r : State) (w : Thread) : Type 0 where
+    threads-8 : length (r .threads) ≡ 8
+    counts-256 : length (r .counts) ≡ 256
+    classes-32 : length (r .classes) ≡ 32
+    stack-16 : length (w .stack) ≡ 16
+    same-class : w .class ≡ t .class
+
+  kept : (w : Thread) → length (w .stack) ≡ 16 → w .class ≡ t .class → Kept s w
+  kept w k e =
+      record { threads-8 = S .sized .threads-8; counts-256 = S .sized .counts-256; classes-32 = S .sized .classes-32; stack-16 = k; same-class = e }
+
   -- thread i put back
-  finish : (r : State) (w : Thread) (f : Frame) (q : ℕ) → i < 8 → length (r .threads) ≡ 8 → w .vars ≡ f .vars → topFirst (w .depth) (w .stack) ≡ f .stack
-      → ((o : ℕ) → o < 32 → countOf (r .counts) i o ≡ f .counts o) → r .objects ≡ f .objects → w .at .0 ≡ addressOf code q
-      → Leaves code i (record { answer = 0; state = withThread r i w }) (goes q f)
-  finish r w f q n h v k c o g =
-      let x = put-is r i w (omega arith) in
-      rw x (refl, record { vars = v; stack = k; counts = c; objects = o }, g)
+  finish : (r : State) (w : Thread) (f : Frame) (q : ℕ) → i < 8 → Kept r w → w .vars ≡ f .vars → topFirst (w .depth) (w .stack) ≡ f .stack
+      → ((o : ℕ) → o < 32 → countOf (r .counts) i o ≡ f .counts o) → r .objects ≡ f .objects → ((o : ℕ) → o < 32 → classOf r o ≡ f .kinds o)
+      → w .at .0 ≡ addressOf code q → begins code q ≡ true → Leaves code c i (record { answer = 0; state = withThread r i w }) (goes q f)
+  finish r w f q n h v k d o z g e =
+      let x = put-is r i w (omega (arith, h .threads-8)) in
+      record {
+        went = refl;
+        values = rw x (record { vars = v; stack = k; counts = d; objects = o; kinds = z });
+        there =
+            record {
+              class = rw x (h .same-class ∙ S .class);
+              address = rw x g;
+              begun = e;
+              sized =
+                  record {
+                    threads-8 = length-set (r .threads) i w ∙ h .threads-8;
+                    counts-256 = h .counts-256;
+                    classes-32 = h .classes-32;
+                    stack-16 = rw x (h .stack-16);
+                  };
+            };
+      }
+
+  -- right behind
+  behind : begins code (p + sizeAt code p) ≡ true
+  behind = begins-next code p (S .begun)
 
   inside : t .depth < 16 → t .depth < length (t .stack)
   inside d = omega (arith, S .sized .stack-16)
 
   -- a push of x, with the objects that r has
-  pushes : (r : State) (x : Slot) (f : Frame) → i < 8 → length (r .threads) ≡ 8 → t .depth < 16 → t .vars ≡ f .vars → x ∷ topFirst (t .depth) (t .stack) ≡ f .stack
-      → ((o : ℕ) → o < 32 → countOf (r .counts) i o ≡ f .counts o) → r .objects ≡ f .objects → t .at .0 + 1 ≡ addressOf code (p + sizeAt code p)
-      → Leaves code i (moves.wentOn r i (t .at) (pushed t x)) (goes (p + sizeAt code p) f)
-  pushes r x f n h d v k c o g =
+  pushes : (r : State) (x : Slot) (f : Frame) → i < 8 → Kept r t → t .depth < 16 → t .vars ≡ f .vars → x ∷ topFirst (t .depth) (t .stack) ≡ f .stack
+      → ((o : ℕ) → o < 32 → countOf (r .counts) i o ≡ f .counts o) → r .objects ≡ f .objects → ((o : ℕ) → o < 32 → classOf r o ≡ f .kinds o)
+      → t .at .0 + 1 ≡ addressOf code (p + sizeAt code p) → Leaves code c i (moves.wentOn r i (t .at) (pushed t x)) (goes (p + sizeAt code p) f)
+  pushes r x f n h d v k g o z a =
+      let l : length (set (t .stack) (t .depth) x) ≡ 16 = length-set (t .stack) (t .depth) x ∙ S .sized .stack-16 in
       rw (pushed-is t x d)
-      (finish r (withAt (withStack t (set (t .stack) (t .depth) x) (t .depth + 1)) (t .at .0 + 1)) f (p + sizeAt code p) n h v
-      (push-top (t .depth) (t .stack) x (inside d) ∙ k) c o g)
+      (finish r (withAt (withStack t (set (t .stack) (t .depth) x) (t .depth + 1)) (t .at .0 + 1)) f (p + sizeAt code p) n
+      (record { threads-8 = h .threads-8; counts-256 = h .counts-256; classes-32 = h .classes-32; stack-16 = l; same-class = refl }) v
+      (push-top (t .depth) (t .stack) x (inside d) ∙ k) g o z a behind)
+
+  as-was : Kept s t
+  as-was = kept t (S .sized .stack-16) refl
+
+  -- a stack of which the top is gone
+  shorter : (l : List Slot) → length l ≡ 16 → (n d : ℕ) → length (fillFrom d n zeroSlot l) ≡ 16
+  shorter l e n d = fill-length d zeroSlot l n ∙ e
 
   -- what is pushed where there is room
   roomy : {limit : ℕ} → limit ≤ 16 → pushFault t limit ≡ 0 → t .depth < 16
@@ -116,13 +176,13 @@ module _ (b classes code rescue : List ℕ) (s : State) (i p : ℕ) (S : Standin
   unfolding rowsOf lineOf find table
   of-push0 x e w =
       one instruction.Push0 Iconst0 x (first Iconst0 e (omega arith)) w
-      (λ k. pushes s zeroSlot _ (k .number) (S .sized .threads-8) (roomy (k .limit) (k .no-fault)) refl refl (λ o n. refl) refl (next-at Iconst0 e))
+      (λ k. pushes s zeroSlot _ (k .number) as-was (roomy (k .limit) (k .no-fault)) refl refl (λ o n. refl) refl (λ o n. refl) (next-at Iconst0 e))
 
   of-load : (v : ℕ) (x : Bool) → javaAt code p ≡ Load v → stepOf b s i x .answer ≤ 2 → Result (stepOf b s i x) (Load v) x
   unfolding rowsOf lineOf find table
   of-load v x e w =
       one (instruction.Load (var v)) (Load v) x (first (Load v) e (omega arith)) w
-      (λ k. pushes s (varOf t v) _ (k .number) (S .sized .threads-8) (roomy (k .limit) (k .no-fault)) refl refl (λ o n. refl) refl (next-at (Load v) e))
+      (λ k. pushes s (varOf t v) _ (k .number) as-was (roomy (k .limit) (k .no-fault)) refl refl (λ o n. refl) refl (λ o n. refl) (next-at (Load v) e))
 
   -- the top, where one is asked for
   topped-by : (rest : ℕ) → test (has 1 t) 11 rest ≡ 0 → 1 ≤ t .depth
@@ -133,15 +193,16 @@ module _ (b classes code rescue : List ℕ) (s : State) (i p : ℕ) (S : Standin
   of-store v x e w =
       one (instruction.Store (var v)) (Store v) x (first (Store v) e (omega arith)) w
       (λ k. let d = topped-by 0 (k .no-fault) in
-      finish s (withAt (popped 1 (stored t v (threads.topOf t))) (t .at .0 + 1)) _ (p + sizeAt code p) (k .number) (S .sized .threads-8) (ap (set (t .vars) v) (top-of (t .depth) (t .stack) d))
-      (rest-of (t .depth) (t .stack) d) (λ o n. refl) refl (next-at (Store v) e))
+      finish s (withAt (popped 1 (stored t v (threads.topOf t))) (t .at .0 + 1)) _ (p + sizeAt code p) (k .number) (kept _ (shorter (t .stack) (S .sized .stack-16) 1 (t .depth - 1)) refl)
+      (ap (set (t .vars) v) (top-of (t .depth) (t .stack) d)) (rest-of (t .depth) (t .stack) d) (λ o n. refl) refl (λ o n. refl) (next-at (Store v) e) behind)
 
   of-pop : (x : Bool) → javaAt code p ≡ Pop → stepOf b s i x .answer ≤ 2 → Result (stepOf b s i x) Pop x
   unfolding rowsOf lineOf find table popped
   of-pop x e w =
       one instruction.Pop Pop x (first Pop e (omega arith)) w
       (λ k. let d = topped-by 0 (k .no-fault) in
-      finish s (withAt (popped 1 t) (t .at .0 + 1)) _ (p + sizeAt code p) (k .number) (S .sized .threads-8) refl (rest-of (t .depth) (t .stack) d) (λ o n. refl) refl (next-at Pop e))
+      finish s (withAt (popped 1 t) (t .at .0 + 1)) _ (p + sizeAt code p) (k .number) (kept _ (shorter (t .stack) (S .sized .stack-16) 1 (t .depth - 1)) refl)
+      refl (rest-of (t .depth) (t .stack) d) (λ o n. refl) refl (λ o n. refl) (next-at Pop e) behind)
 
   of-if : (d : ℕ) (x : Bool) → javaAt code p ≡ Ifne d → stepOf b s i x .answer ≤ 2 → Result (stepOf b s i x) (Ifne d) x
   unfolding rowsOf lineOf find table popped
@@ -151,32 +212,36 @@ module _ (b classes code rescue : List ℕ) (s : State) (i p : ℕ) (S : Standin
       rw (top-of (t .depth) (t .stack) n) (either (k .number) n (jumps (topOf (topFirst (t .depth) (t .stack))))))
     where
       either : i < 8 → 1 ≤ t .depth → (j : Bool)
-          → Leaves code i (cond j (moves.wentTo s i (popped 1 t) (addressOf code (targetOf code p d))) (moves.wentOn s i (t .at) (popped 1 t)))
+          → Leaves code c i (cond j (moves.wentTo s i (popped 1 t) (addressOf code (targetOf code p d))) (moves.wentOn s i (t .at) (popped 1 t)))
           (goes (cond j (targetOf code p d) (p + sizeAt code p)) (pop (seen s i)))
       either k n true =
-          finish s (withAt (popped 1 t) (addressOf code (targetOf code p d))) _ (targetOf code p d) k (S .sized .threads-8) refl (rest-of (t .depth) (t .stack) n) (λ o q. refl) refl refl
+          finish s (withAt (popped 1 t) (addressOf code (targetOf code p d))) _ (targetOf code p d) k (kept _ (shorter (t .stack) (S .sized .stack-16) 1 (t .depth - 1)) refl)
+          refl (rest-of (t .depth) (t .stack) n) (λ o q. refl) refl (λ o q. refl) refl (landing .branch p d within (S .begun) e)
       either k n false =
-          finish s (withAt (popped 1 t) (t .at .0 + 1)) _ (p + sizeAt code p) k (S .sized .threads-8) refl (rest-of (t .depth) (t .stack) n) (λ o q. refl) refl (next-at (Ifne d) e)
+          finish s (withAt (popped 1 t) (t .at .0 + 1)) _ (p + sizeAt code p) k (kept _ (shorter (t .stack) (S .sized .stack-16) 1 (t .depth - 1)) refl)
+          refl (rest-of (t .depth) (t .stack) n) (λ o q. refl) refl (λ o q. refl) (next-at (Ifne d) e) behind
 
   -- ---- what is thrown finds the handler, or none
   throw-leaves : (offset : ℕ) (x : Slot) → i < 8
-      → Leaves code i (moves.throwMove s i t (m .vars) (addr (handlerFor code rescue offset)) x) (throws rescue offset x (seen s i))
+      → Leaves code c i (moves.throwMove s i t (m .vars) (addr (handlerFor code rescue offset)) x) (throws rescue offset x (seen s i))
   unfolding handlerBy throws
-  throw-leaves offset x n = go (ltb (coveredBy rescue offset) (entries rescue))
+  throw-leaves offset x n = go (ltb (coveredBy rescue offset) (entries rescue)) refl
     where
-      go : (j : Bool) → Leaves code i (moves.throwMove s i t (m .vars) (addr (cond j (addressOf code (handlerOf rescue (coveredBy rescue offset))) 0)) x) (cond j (goes (handlerOf rescue (coveredBy rescue offset)) (alone x (seen s i))) uncaught)
-      go true =
+      go : (j : Bool) → ltb (coveredBy rescue offset) (entries rescue) ≡ j → Leaves code c i (moves.throwMove s i t (m .vars) (addr (cond j (addressOf code (handlerOf rescue (coveredBy rescue offset))) 0)) x) (cond j (goes (handlerOf rescue (coveredBy rescue offset)) (alone x (seen s i))) uncaught)
+      go true h =
           rw (ne-eqb (countTo code (handlerOf rescue (coveredBy rescue offset)) + 1) 0 (λ e. omega arith), caught-is t x)
-          (finish s (withAt (withStack t (set (fillFrom 0 (t .depth) zeroSlot (t .stack)) 0 x) 1) (addressOf code (handlerOf rescue (coveredBy rescue offset)))) (alone x (seen s i)) (handlerOf rescue (coveredBy rescue offset)) n (S .sized .threads-8) refl
-          (caught-alone (t .depth) (t .stack) x (S .sized .stack-16)) (λ o h. refl) refl refl)
-      go false = refl
+          (finish s (withAt (withStack t (set (fillFrom 0 (t .depth) zeroSlot (t .stack)) 0 x) 1) (addressOf code (handlerOf rescue (coveredBy rescue offset)))) (alone x (seen s i)) (handlerOf rescue (coveredBy rescue offset)) n
+          (kept _ (length-set (fillFrom 0 (t .depth) zeroSlot (t .stack)) 0 x ∙ shorter (t .stack) (S .sized .stack-16) (t .depth) 0) refl) refl
+          (caught-alone (t .depth) (t .stack) x (S .sized .stack-16)) (λ o q. refl) refl (λ o q. refl) refl
+          (landing .handler (coveredBy rescue offset) (ltb-true (coveredBy rescue offset) (entries rescue) h)))
+      go false h = refl
 
   of-throw : (x : Bool) → javaAt code p ≡ Athrow → stepOf b s i x .answer ≤ 2 → Result (stepOf b s i x) Athrow x
   unfolding rowsOf lineOf find table
   of-throw x e w =
       one (instruction.Throw (addr (handlerFor code rescue p))) Athrow x (first Athrow e (omega arith)) w
       (λ k. let n = topped-by _ (k .no-fault) in
-      subst (λ (y : Slot). Leaves code i (moves.throwMove s i t (m .vars) (addr (handlerFor code rescue p)) (threads.topOf t)) (throws rescue p y (seen s i)))
+      subst (λ (y : Slot). Leaves code c i (moves.throwMove s i t (m .vars) (addr (handlerFor code rescue p)) (threads.topOf t)) (throws rescue p y (seen s i)))
       (top-of (t .depth) (t .stack) n) (throw-leaves p (threads.topOf t) (k .number)))
 
   of-return : (x : Bool) → javaAt code p ≡ Return → stepOf b s i x .answer ≤ 2 → Result (stepOf b s i x) Return x
@@ -184,14 +249,25 @@ module _ (b classes code rescue : List ℕ) (s : State) (i p : ℕ) (S : Standin
   of-return x e w = one instruction.Return Return x (first Return e (omega arith)) w (λ k. refl)
 
   -- ---- the counts with one of them changed
-  count-put : i < 8 → (o n q : ℕ) → q < 32 → countOf (set (s .counts) (i * 32 + o) n) i q ≡ counted (countOf (s .counts) i) o n q
+  count-put : i < 8 → (o n q : ℕ) → q < 32 → countOf (set (s .counts) (i * 32 + o) n) i q ≡ changed (countOf (s .counts) i) o n q
   count-put k o n q h = go (ℕ-discrete q o)
     where
-      go : Dec (q ≡ o) → countOf (set (s .counts) (i * 32 + o) n) i q ≡ counted (countOf (s .counts) i) o n q
+      go : Dec (q ≡ o) → countOf (set (s .counts) (i * 32 + o) n) i q ≡ changed (countOf (s .counts) i) o n q
       go (yes d) =
           let f : i * 32 + o < length (s .counts) = omega (arith, S .sized .counts-256) in
           rw (eq-eqb q o d, d) (getD-set-same (s .counts) (i * 32 + o) n 0 f)
       go (no d) = rw (ne-eqb q o d) (getD-set-other (s .counts) (i * 32 + o) (i * 32 + q) n 0 (λ x. d (omega arith)))
+
+  -- .. and the sizes
+  counted-kept : (o n a : ℕ) → Kept (withCount s i o n) (withAt t a)
+  counted-kept o n a =
+      record {
+        threads-8 = S .sized .threads-8;
+        counts-256 = length-set (s .counts) (i * 32 + o) n ∙ S .sized .counts-256;
+        classes-32 = S .sized .classes-32;
+        stack-16 = S .sized .stack-16;
+        same-class = refl;
+      }
 
   of-exit : (v : ℕ) (x : Bool) → javaAt code p ≡ Exit v → stepOf b s i x .answer ≤ 2 → Result (stepOf b s i x) (Exit v) x
   unfolding rowsOf lineOf find table
@@ -199,7 +275,7 @@ module _ (b classes code rescue : List ℕ) (s : State) (i p : ℕ) (S : Standin
       one (instruction.Exit (var v)) (Exit v) x (first (Exit v) e (omega arith)) w
       (λ k.
       finish (withCount s i (objectOf (varOf t v)) (countOf (s .counts) i (objectOf (varOf t v)) - 1)) (withAt t (t .at .0 + 1)) _ (p + sizeAt code p) (k .number)
-      (S .sized .threads-8) refl refl (count-put (k .number) _ _) refl (next-at (Exit v) e))
+      (counted-kept _ _ _) refl refl (count-put (k .number) _ _) refl (λ o q. refl) (next-at (Exit v) e) behind)
 
   of-enter : (v : ℕ) (x : Bool) → javaAt code p ≡ Enter v → stepOf b s i x .answer ≤ 2 → Result (stepOf b s i x) (Enter v) x
   unfolding rowsOf lineOf find table
@@ -209,39 +285,69 @@ module _ (b classes code rescue : List ℕ) (s : State) (i p : ℕ) (S : Standin
     where
       -- what is on the stack is gone
       thrown : (offset : ℕ) → i < 8
-          → Leaves code i (moves.failMove s i t (m .vars) (addr (handlerFor code rescue offset))) (throws rescue offset (refSlot 0) (load v (seen s i)))
+          → Leaves code c i (moves.failMove s i t (m .vars) (addr (handlerFor code rescue offset))) (throws rescue offset (refSlot 0) (load v (seen s i)))
       thrown offset n = rw (same-throw rescue offset (refSlot 0) (varOf t v) (seen s i)) (throw-leaves offset (refSlot 0) n)
 
       go : i < 8 → (j : Bool)
-          → Leaves code i (cond j (moves.failMove s i t (m .vars) (addr (handlerFor code rescue (p + sizeAt code p - 1)))) (moves.counted s i t (objectOf (varOf t v)) (countOf (s .counts) i (objectOf (varOf t v)) + 1)))
+          → Leaves code c i (cond j (moves.failMove s i t (m .vars) (addr (handlerFor code rescue (p + sizeAt code p - 1)))) (moves.counted s i t (objectOf (varOf t v)) (countOf (s .counts) i (objectOf (varOf t v)) + 1)))
           (cond j (throws rescue (p + sizeAt code p - 1) (refSlot 0) (load v (seen s i))) (goes (p + sizeAt code p) (enter (load v (seen s i)))))
       go n true = thrown (p + sizeAt code p - 1) n
       go n false =
-          finish (withCount s i (objectOf (varOf t v)) (countOf (s .counts) i (objectOf (varOf t v)) + 1)) (withAt t (t .at .0 + 1)) _ (p + sizeAt code p) n (S .sized .threads-8) refl refl (count-put n _ _) refl (next-at (Enter v) e)
+          finish (withCount s i (objectOf (varOf t v)) (countOf (s .counts) i (objectOf (varOf t v)) + 1)) (withAt t (t .at .0 + 1)) _ (p + sizeAt code p) n (counted-kept _ _ _) refl refl (count-put n _ _) refl (λ o q. refl) (next-at (Enter v) e) behind
 
-  object-is : s .objects < 32 → (c : ℕ) (fields : List Slot)
-      → (length (withObject s c fields .threads) ≡ 8) × (withObject s c fields .counts ≡ s .counts) × (withObject s c fields .objects ≡ s .objects + 1)
+  -- the classes with one of them changed
+  class-put : s .objects < 32 → (d q : ℕ) → getD (set (s .classes) (s .objects) d) q 0 ≡ changed (classOf s) (s .objects) d q
+  class-put h d q = go (ℕ-discrete q (s .objects))
+    where
+      go : Dec (q ≡ s .objects) → getD (set (s .classes) (s .objects) d) q 0 ≡ changed (classOf s) (s .objects) d q
+      go (yes e) =
+          rw (eq-eqb q (s .objects) e, e) (getD-set-same (s .classes) (s .objects) d 0 (omega (arith, S .sized .classes-32)))
+      go (no e) = rw (ne-eqb q (s .objects) e) (getD-set-other (s .classes) (s .objects) q d 0 (λ x. e (omega arith)))
+
+  object-is : s .objects < 32 → (d : ℕ) (fields : List Slot)
+      → Kept (withObject s d fields) t × (withObject s d fields .counts ≡ s .counts) × (withObject s d fields .objects ≡ s .objects + 1)
+      × ((q : ℕ) → classOf (withObject s d fields) q ≡ changed (classOf s) (s .objects) d q)
   unfolding withObject
-  object-is h c fields = rw (lt-ltb (s .objects) 32 h) (S .sized .threads-8, refl, refl)
+  object-is h d fields =
+      rw (lt-ltb (s .objects) 32 h) (
+        record {
+          threads-8 = S .sized .threads-8;
+          counts-256 = S .sized .counts-256;
+          classes-32 = length-set (s .classes) (s .objects) d ∙ S .sized .classes-32;
+          stack-16 = S .sized .stack-16;
+          same-class = refl;
+        },
+        refl,
+        refl,
+        class-put h d,
+      )
 
-  of-new : (c : ℕ) (x : Bool) → javaAt code p ≡ New c → stepOf b s i x .answer ≤ 2 → Result (stepOf b s i x) (New c) x
+  of-new : (d : ℕ) (x : Bool) → javaAt code p ≡ New d → stepOf b s i x .answer ≤ 2 → Result (stepOf b s i x) (New d) x
   unfolding rowsOf lineOf find table
-  of-new c x e w =
-      one (instruction.New (classNumber classes c) (addr (handlerFor code rescue p))) (New c) x (first (New c) e (omega arith)) w
+  of-new d x e w =
+      one (instruction.New (classNumber classes d) (addr (handlerFor code rescue p))) (New d) x (first (New d) e (omega arith)) w
       (λ k. go (k .number) (k .limit) (newFails s x) refl (k .no-fault))
     where
       go : i < 8 → m .limit ≤ 16 → (j : Bool) → newFails s x ≡ j → cond j (throwFault (s .counts) i (m .limit) (addr (handlerFor code rescue p))) (pushFault t (m .limit)) ≡ 0
-          → Leaves code i (cond j (moves.failMove s i t (m .vars) (addr (handlerFor code rescue p))) (moves.makeMove (programOf b) s i t (classNumber classes c)))
-          (cond j (throws rescue p (refSlot 0) (seen s i)) (goes (p + sizeAt code p) (create (seen s i))))
-      go n h true f d = throw-leaves p (refSlot 0) n
-      go n h false f d =
-          let y = object-is (leb-false 32 (s .objects) (or-false-snd x (leb 32 (s .objects)) f)) (classNumber classes c) (moves.firstFields (programOf b .method (classNumber classes c))) in
-          pushes (withObject s (classNumber classes c) (moves.firstFields (programOf b .method (classNumber classes c)))) (refSlot (s .objects)) _ n (y .0) (roomy h d) refl refl
-          (λ o q. ap (λ (z : List ℕ). countOf z i o) (y .1)) (y .2) (next-at (New c) e)
+          → Leaves code c i (cond j (moves.failMove s i t (m .vars) (addr (handlerFor code rescue p))) (moves.makeMove (programOf b) s i t (classNumber classes d)))
+          (cond j (throws rescue p (refSlot 0) (seen s i)) (goes (p + sizeAt code p) (create (classNumber classes d) (seen s i))))
+      go n h true f g = throw-leaves p (refSlot 0) n
+      go n h false f g =
+          let y = object-is (leb-false 32 (s .objects) (or-false-snd x (leb 32 (s .objects)) f)) (classNumber classes d) (moves.firstFields (programOf b .method (classNumber classes d))) in
+          pushes (withObject s (classNumber classes d) (moves.firstFields (programOf b .method (classNumber classes d)))) (refSlot (s .objects)) _ n (y .0) (roomy h g) refl refl
+          (λ o q. ap (λ (z : List ℕ). countOf z i o) (y .1)) (y .2) (λ o q. y .3 o) (next-at (New d) e)
 
   -- ---- nothing is written
-  of-none : (J : Java) → javaAt code p ≡ J → givesOf J ≡ 0 → Leaves code i (record { answer = 0; state = s }) (goes (p + sizeAt code p) (seen s i))
-  of-none J e g = (refl, record { vars = refl; stack = refl; counts = λ o n. refl; objects = refl }, omega (arith, next-at J e))
+  stays : (q : ℕ) → t .at .0 ≡ addressOf code q → begins code q ≡ true → Leaves code c i (record { answer = 0; state = s }) (goes q (seen s i))
+  stays q a e =
+      record {
+        went = refl;
+        values = record { vars = refl; stack = refl; counts = λ o n. refl; objects = refl; kinds = λ o n. refl };
+        there = record { class = S .class; address = a; begun = e; sized = S .sized };
+      }
+
+  of-none : (J : Java) → javaAt code p ≡ J → givesOf J ≡ 0 → Leaves code c i (record { answer = 0; state = s }) (goes (p + sizeAt code p) (seen s i))
+  of-none J e g = stays (p + sizeAt code p) (omega (arith, next-at J e)) behind
 
   -- ---- iinc: a load, an inc and a store
   put-put : (w x : Thread) → withThread (withThread s i w) i x ≡ withThread s i x
@@ -279,6 +385,10 @@ module _ (b classes code rescue : List ℕ) (s : State) (i p : ℕ) (S : Standin
       (above (t .depth) (t .depth + 0) _ zeroSlot (omega arith)
       ∙ above (t .depth) (t .depth) _ _ (omega arith)
       ∙ above (t .depth) (t .depth) (t .stack) (varOf t v) (omega arith))
+
+  stored-size : (v : ℕ) → length (fillFrom (t .depth + 1 - 1) 1 zeroSlot (raised v .stack)) ≡ 16
+  stored-size v =
+      shorter (raised v .stack) (length-set (loaded v .stack) (t .depth + 1 - 1) _ ∙ length-set (t .stack) (t .depth) (varOf t v) ∙ S .sized .stack-16) 1 (t .depth + 1 - 1)
 
   -- the state that each step leaves
   abbrev went : State → Stepped
@@ -319,7 +429,8 @@ module _ (b classes code rescue : List ℕ) (s : State) (i p : ℕ) (S : Standin
       let w₂ = rw e₂ at w₁ in
       let k₃ = to-stored v z e (k₁ .0) (steps-first b i z [] _ w₂) in
       rw (e₁, e₂, steps-one b i z _, k₃)
-      (finish s _ _ (p + sizeAt code p) (k₁ .0) (S .sized .threads-8) (ap (set (t .vars) v) (raised-top v (k₁ .1))) (raised-rest v) (λ o n. refl) refl (omega (arith, next-at (Iinc v) e)))
+      (finish s _ _ (p + sizeAt code p) (k₁ .0) (kept _ (stored-size v) refl) (ap (set (t .vars) v) (raised-top v (k₁ .1))) (raised-rest v) (λ o n. refl) refl (λ o n. refl)
+      (omega (arith, next-at (Iinc v) e)) behind)
 
   -- where the stack has room and the variable holds an integer, the three steps do all answer 0
   iinc-through : (v : ℕ) (x y z : Bool) → javaAt code p ≡ Iinc v → length (s .held) ≡ 8 → readable b ≡ true → stateOk (programOf b) s ≡ true → i < 8 → t .live ≡ true
@@ -373,17 +484,32 @@ module _ (b classes code rescue : List ℕ) (s : State) (i p : ℕ) (S : Standin
   every (Ifne d) = single (Ifne d) (of-if d)
   every (Enter v) = single (Enter v) (of-enter v)
   every (Exit v) = single (Exit v) (of-exit v)
-  every (New c) = single (New c) (of-new c)
+  every (New d) = single (New d) (of-new d)
   every Athrow = single Athrow of-throw
   every Return = single Return of-return
   every (Iinc v) = triple v
-  every Other = none Other (λ e. (refl, record { vars = refl; stack = refl; counts = λ o n. refl; objects = refl }, S .address))
+  every Other = none Other (λ e. stays p (S .address) (S .begun))
+
+-- a method that was taken
+landing-of : (a classes : List ℕ) (room : ℕ) → takenOf a classes room .number ≡ 0 → Landing (codeOf a) (tableOf a)
+unfolding lands
+landing-of a classes room e =
+    let h = succeeds a classes room e in
+    record {
+      branch = λ p d l b f. begun (targetOf (codeOf a) p d) (rw f at (h .branches p l (walks (codeOf a) p .1 b)));
+      handler = λ j l. begun (handlerOf (tableOf a) j) (h .handlers j l);
+    }
+  where
+    begun : (q : ℕ) → lands (codeOf a) q ≡ true → begins (codeOf a) q ≡ true
+    begun q f = search (f, and-fst, and-snd)
 
 -- THEOREM
 pub faithful : Faithful
-faithful b classes code rescue s i p fails S g w = every b classes code rescue s i p S (javaAt code p) fails g refl w
+faithful a classes out b c h s i p fails S l g w =
+    every b classes (codeOf a) (tableOf a) c (carried b c a classes out h) (landing-of a classes (length out) (h .success)) s i p S l (javaAt (codeOf a) p) fails g refl w
 
 -- THEOREM
 pub iinc-goes : IincGoes
-iinc-goes b classes code rescue s i p v x y z S held e r o n live h int =
-    iinc-through b classes code rescue s i p S v x y z e held r o n live h (formed b r .limit-16 _ (belongs-elim (programOf b) s o .live-placed i n live .class-known)) int
+iinc-goes a classes out b c h s i p v x y z S l words e r o n live d int =
+    let k : threadAt s i .depth < programOf b .method (threadAt s i .class) .limit = rw (S .class) d in
+    iinc-through b classes (codeOf a) (tableOf a) c (carried b c a classes out h) (landing-of a classes (length out) (h .success)) s i p S l v x y z e words r o n live k (formed b r .limit-16 _ (belongs-elim (programOf b) s o .live-placed i n live .class-known)) int

@@ -1,5 +1,7 @@
 pub mod Rows
 pub mod Stacks
 pub mod Moves
-pub mod Faithful
 pub mod Carried
+pub mod Faithful
+pub mod Runs
+pub mod Witness

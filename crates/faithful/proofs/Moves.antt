@@ -75,7 +75,7 @@ module _ (b : List ℕ) (i : ℕ) where
   unfolding steps
   steps-one x s = alike (stepOf b s i x) (eqb (stepOf b s i x .answer) 0) refl
 
-  low : (f : State → Stepped) (r : Stepped) (t : Bool) → eqb (r .answer) 0 ≡ t → cond t (f (r .state)) r .answer ≤ 2 → r .answer ≤ 2
+  pub low : (f : State → Stepped) (r : Stepped) (t : Bool) → eqb (r .answer) 0 ≡ t → cond t (f (r .state)) r .answer ≤ 2 → r .answer ≤ 2
   low f r true e h = omega (arith, eqb-true (r .answer) 0 e)
   low f r false e h = h
 

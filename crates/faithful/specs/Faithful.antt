@@ -13,7 +13,7 @@ use Rattle.values.specs.declared.Slot.{Slot}
 use Rattle.values.specs.Values.{zeroSlot, isInt}
 use Rattle.threads.specs.Threads.{varOf}
 use Rattle.state.specs.declared.State.{State}
-use Rattle.state.specs.State.{threadAt, countOf}
+use Rattle.state.specs.State.{threadAt, countOf, classOf}
 use Rattle.turns.specs.declared.Stepped.{Stepped}
 use Rattle.belongs.specs.Belongs.{stateOk}
 use Rattle.machine.specs.Machine.{readable, stepOf}
@@ -47,20 +47,29 @@ topFirst (suc n) l = getD l n zeroSlot ∷ topFirst n l
 -- what of the machine's state thread i has
 abbrev pub seen : State → ℕ → Frame
 seen s i =
-    frame (threadAt s i .vars) (topFirst (threadAt s i .depth) (threadAt s i .stack)) (countOf (s .counts) i) (s .objects)
+    frame (threadAt s i .vars) (topFirst (threadAt s i .depth) (threadAt s i .stack)) (countOf (s .counts) i) (s .objects) (classOf s)
 
--- the same variables, stack and objects, and the same count for each of the 32 objects
+-- the same variables, stack and number of objects, and for each of the 32 objects the same count and the same class
 pub record Agree (f g : Frame) : Type 0 where
   pub vars : f .vars ≡ g .vars
   pub stack : f .stack ≡ g .stack
   pub counts : (o : ℕ) → o < 32 → f .counts o ≡ g .counts o
   pub objects : f .objects ≡ g .objects
+  pub kinds : (o : ℕ) → o < 32 → f .kinds o ≡ g .kinds o
 
 -- what every state has, whose arrays are of document 01's sizes
 pub record Sized (s : State) (i : ℕ) : Type 0 where
   pub threads-8 : length (s .threads) ≡ 8
   pub counts-256 : length (s .counts) ≡ 256
+  pub classes-32 : length (s .classes) ≡ 32
   pub stack-16 : length (threadAt s i .stack) ≡ 16
+
+-- thread i is in class c, at the address of offset q, where an instruction begins or the code ends
+pub record At (code : List ℕ) (c : ℕ) (s : State) (i q : ℕ) : Type 0 where
+  pub class : threadAt s i .class ≡ c
+  pub address : threadAt s i .at .0 ≡ addressOf code q
+  pub begun : begins code q ≡ true
+  pub sized : Sized s i
 
 -- on where a step answered 0
 abbrev pub andThen : (State → Stepped) → Stepped → Stepped
@@ -76,40 +85,78 @@ abbrev pub told : List Bool → Bool
 told [] = false
 told (x ∷ xs) = x
 
--- the machine leaves what the instruction leaves: the values, and its thread at the address of the offset at which the method goes on; or an end (1), or one uncaught (2)
-abbrev pub Leaves : List ℕ → ℕ → Stepped → Left → Type 0
-Leaves code i r (goes q f) = (r .answer ≡ 0) × Agree (seen (r .state) i) f × (threadAt (r .state) i .at .0 ≡ addressOf code q)
-Leaves code i r returned = r .answer ≡ 1
-Leaves code i r uncaught = r .answer ≡ 2
+-- the machine goes on with these values, at the address of the offset at which the method goes on
+pub record GoesOn (code : List ℕ) (c i : ℕ) (r : Stepped) (q : ℕ) (f : Frame) : Type 0 where
+  pub went : r .answer ≡ 0
+  pub values : Agree (seen (r .state) i) f
+  pub there : At code c (r .state) i q
 
--- thread i stands at the address of offset p, an instruction's first byte, in a class that has what is written for the code
-pub record Standing (b classes code table : List ℕ) (s : State) (i p : ℕ) : Type 0 where
-  pub holds : Holds b (threadAt s i .class) classes code table
-  pub sized : Sized s i
-  pub inside : p < length code
-  pub begun : begins code p ≡ true
-  pub address : threadAt s i .at .0 ≡ addressOf code p
+-- the machine leaves what the instruction leaves: it goes on so, or the thread ends (1), or ends uncaught (2)
+abbrev pub Leaves : List ℕ → ℕ → ℕ → Stepped → Left → Type 0
+Leaves code c i r (goes q f) = GoesOn code c i r q f
+Leaves code c i r returned = r .answer ≡ 1
+Leaves code c i r uncaught = r .answer ≡ 2
 
--- the statement: the steps of what is written for the instruction there, where they answer 0, 1 or 2, leave what the instruction leaves
+-- THE STATEMENT: `take` answered 0, and class c of a bundle has as its instructions what it wrote. Thread i is at the address of an instruction that was read.
+-- From the same values, the steps of what is written for it, where they answer 0, 1 or 2, leave what the instruction leaves; and there the next one can be taken.
 abbrev pub Faithful : Type 0
 Faithful =
-    (b classes code table : List ℕ) (s : State) (i p : ℕ) (fails : List Bool) →
-    Standing b classes code table s i p →
-    length fails ≡ givesOf (javaAt code p) →
+    (a classes out b : List ℕ) (c : ℕ) →
+    Carries b c a classes out →
+    (s : State) (i p : ℕ) (fails : List Bool) →
+    At (codeOf a) c s i p →
+    p < length (codeOf a) →
+    length fails ≡ givesOf (javaAt (codeOf a) p) →
     steps b i fails s .answer ≤ 2 →
-    Leaves code i (steps b i fails s) (does code table p (javaAt code p) (told fails) (seen s i))
+    Leaves (codeOf a) c i (steps b i fails s) (does classes (codeOf a) (tableOf a) p (javaAt (codeOf a) p) (told fails) (seen s i))
 
 -- .. and an iinc's three steps do all answer 0 where thread i lives in a state of this bundle, the stack has room and the variable holds an integer
 abbrev pub IincGoes : Type 0
 IincGoes =
-    (b classes code table : List ℕ) (s : State) (i p v : ℕ) (x y z : Bool) →
-    Standing b classes code table s i p →
+    (a classes out b : List ℕ) (c : ℕ) →
+    Carries b c a classes out →
+    (s : State) (i p v : ℕ) (x y z : Bool) →
+    At (codeOf a) c s i p →
+    p < length (codeOf a) →
     length (s .held) ≡ 8 →
-    javaAt code p ≡ Iinc v →
+    javaAt (codeOf a) p ≡ Iinc v →
     readable b ≡ true →
     stateOk (programOf b) s ≡ true →
     i < 8 →
     threadAt s i .live ≡ true →
-    threadAt s i .depth < programOf b .method (threadAt s i .class) .limit →
+    threadAt s i .depth < programOf b .method c .limit →
     isInt (varOf (threadAt s i) v) ≡ true →
     steps b i (x ∷ y ∷ z ∷ []) s .answer ≡ 0
+
+-- ---- a whole run: instruction after instruction, and what each is told
+unfoldable pub runs : List ℕ → ℕ → List (List Bool) → State → Stepped
+runs b i [] s = record { answer = 0; state = s }
+runs b i (x ∷ xs) s = andThen (runs b i xs) (steps b i x s)
+
+module _ (classes code table : List ℕ) where
+  abbrev pub onward : Left → List Bool → Left
+  onward (goes q f) x = does classes code table q (javaAt code q) (told x) f
+  onward returned x = returned
+  onward uncaught x = uncaught
+
+  unfoldable pub doing : List (List Bool) → Left → Left
+  doing [] l = l
+  doing (x ∷ xs) l = doing xs (onward l x)
+
+  -- where an instruction is told anything, the method has not ended, nor come to its code's end; and each has as many steps as are written for it
+  abbrev pub Told : List (List Bool) → Left → Type 0
+  Told [] l = Unit
+  Told (x ∷ xs) (goes q f) = (q < length code) × (length x ≡ givesOf (javaAt code q)) × Told xs (onward (goes q f) x)
+  Told (x ∷ xs) returned = ⊥
+  Told (x ∷ xs) uncaught = ⊥
+
+-- from the same values, so many instructions leave what was read leaves
+abbrev pub FaithfulRuns : Type 0
+FaithfulRuns =
+    (a classes out b : List ℕ) (c : ℕ) →
+    Carries b c a classes out →
+    (s : State) (i p : ℕ) (xs : List (List Bool)) →
+    At (codeOf a) c s i p →
+    Told classes (codeOf a) (tableOf a) xs (goes p (seen s i)) →
+    runs b i xs s .answer ≤ 2 →
+    Leaves (codeOf a) c i (runs b i xs s) (doing classes (codeOf a) (tableOf a) xs (goes p (seen s i)))

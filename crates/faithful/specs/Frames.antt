@@ -10,18 +10,30 @@ use Rattle.values.specs.Values.{zeroSlot, refSlot, objectOf, isNull, incSlot, j
 use Rattle.java.specs.declared.Java.{Java}
 use Rattle.java.specs.declared.Java.the-variants.{Nop, Pop, Iconst0, Load, Store, Ifne, Enter, Exit, New, Athrow, Return, Iinc, Other}
 use Rattle.java.specs.Instructions.{sizeAt}
+use Rattle.java.specs.Classes.{classNumber}
 use Rattle.offsets.specs.Handlers.{entries, handlerOf, coveredBy}
 use Rattle.offsets.specs.Targets.{targetOf}
 
--- a thread's local variables, its stack with the top first, its count for each object, and how many objects there are
+-- a thread's local variables, its stack with the top first, its count for each object; and how many objects there are, and the class of each
 pub record Frame : Type 0 where
   pub vars : List Slot
   pub stack : List Slot
   pub counts : ℕ → ℕ
   pub objects : ℕ
+  pub kinds : ℕ → ℕ
 
-abbrev pub frame : List Slot → List Slot → (ℕ → ℕ) → ℕ → Frame
-frame vars stack counts objects = record { vars = vars; stack = stack; counts = counts; objects = objects }
+abbrev pub frame : List Slot → List Slot → (ℕ → ℕ) → ℕ → (ℕ → ℕ) → Frame
+frame vars stack counts objects kinds = record { vars = vars; stack = stack; counts = counts; objects = objects; kinds = kinds }
+
+-- other variables, another stack, other counts
+abbrev pub withVars : List Slot → Frame → Frame
+withVars l f = frame l (f .stack) (f .counts) (f .objects) (f .kinds)
+
+abbrev pub withStack : List Slot → Frame → Frame
+withStack l f = frame (f .vars) l (f .counts) (f .objects) (f .kinds)
+
+abbrev pub withCounts : (ℕ → ℕ) → Frame → Frame
+withCounts g f = frame (f .vars) (f .stack) g (f .objects) (f .kinds)
 
 abbrev pub topOf : List Slot → Slot
 topOf [] = zeroSlot
@@ -32,10 +44,10 @@ restOf [] = []
 restOf (x ∷ xs) = xs
 
 abbrev pub push : Slot → Frame → Frame
-push x f = frame (f .vars) (x ∷ f .stack) (f .counts) (f .objects)
+push x f = withStack (x ∷ f .stack) f
 
 abbrev pub pop : Frame → Frame
-pop f = frame (f .vars) (restOf (f .stack)) (f .counts) (f .objects)
+pop f = withStack (restOf (f .stack)) f
 
 -- iload, aload: the variable's value onto the stack
 abbrev pub load : ℕ → Frame → Frame
@@ -43,34 +55,34 @@ load v f = push (getD (f .vars) v zeroSlot) f
 
 -- istore, astore: the top into the variable
 abbrev pub store : ℕ → Frame → Frame
-store v f = frame (set (f .vars) v (topOf (f .stack))) (restOf (f .stack)) (f .counts) (f .objects)
+store v f = withVars (set (f .vars) v (topOf (f .stack))) (pop f)
 
 -- iinc by 1: the variable one more, the stack as it was
 abbrev pub iinc : ℕ → Frame → Frame
-iinc v f = frame (set (f .vars) v (incSlot (getD (f .vars) v zeroSlot))) (f .stack) (f .counts) (f .objects)
+iinc v f = withVars (set (f .vars) v (incSlot (getD (f .vars) v zeroSlot))) f
 
--- the count of one object changed
-abbrev pub counted : (ℕ → ℕ) → ℕ → ℕ → ℕ → ℕ
-counted counts o n q = cond (eqb q o) n (counts q)
+-- a number for each object, that of o changed
+abbrev pub changed : (ℕ → ℕ) → ℕ → ℕ → ℕ → ℕ
+changed g o n q = cond (eqb q o) n (g q)
 
 -- monitorenter, monitorexit: the object on top of the stack is taken off; its count is one more, one less
 abbrev pub enter : Frame → Frame
 enter f =
     let o = objectOf (topOf (f .stack)) in
-    frame (f .vars) (restOf (f .stack)) (counted (f .counts) o (f .counts o + 1)) (f .objects)
+    withCounts (changed (f .counts) o (f .counts o + 1)) (pop f)
 
 abbrev pub exit : Frame → Frame
 exit f =
     let o = objectOf (topOf (f .stack)) in
-    frame (f .vars) (restOf (f .stack)) (counted (f .counts) o (f .counts o - 1)) (f .objects)
+    withCounts (changed (f .counts) o (f .counts o - 1)) (pop f)
 
--- new: a reference to the next object
-abbrev pub create : Frame → Frame
-create f = frame (f .vars) (refSlot (f .objects) ∷ f .stack) (f .counts) (f .objects + 1)
+-- new: a reference to the next object, which is of class c
+abbrev pub create : ℕ → Frame → Frame
+create c f = frame (f .vars) (refSlot (f .objects) ∷ f .stack) (f .counts) (f .objects + 1) (changed (f .kinds) (f .objects) c)
 
 -- what is thrown, alone on the stack
 abbrev pub alone : Slot → Frame → Frame
-alone x f = frame (f .vars) (x ∷ []) (f .counts) (f .objects)
+alone x f = withStack (x ∷ []) f
 
 -- what an instruction leaves
 pub data Left : Type 0 where
@@ -85,7 +97,7 @@ unfoldable pub throws : List ℕ → ℕ → Slot → Frame → Left
 throws table offset x f =
     cond (ltb (coveredBy table offset) (entries table)) (goes (handlerOf table (coveredBy table offset)) (alone x f)) uncaught
 
-module _ (code table : List ℕ) (p : ℕ) where
+module _ (classes code table : List ℕ) (p : ℕ) where
   -- right behind
   abbrev pub next : Frame → Left
   next f = goes (p + sizeAt code p) f
@@ -104,7 +116,7 @@ module _ (code table : List ℕ) (p : ℕ) where
   does (Ifne d) fails f = goes (cond (jumps (topOf (f .stack))) (targetOf code p d) (p + sizeAt code p)) (pop f)
   does (Enter v) fails f = lock (load v f)
   does (Exit v) fails f = next (exit (load v f))
-  does (New i) fails f = cond (fails || leb 32 (f .objects)) (throws table p (refSlot 0) f) (next (create f))
+  does (New i) fails f = cond (fails || leb 32 (f .objects)) (throws table p (refSlot 0) f) (next (create (classNumber classes i) f))
   does Athrow fails f = throws table p (topOf (f .stack)) f
   does Return fails f = returned
   does (Iinc v) fails f = next (iinc v f)
