@@ -1,6 +1,6 @@
 -- Attributes with what they give, worked out by hand from document 02's sentences.
 use mathlib.Core.List.{List, [], _∷_, _++_, map}
-use Prim.Native.Nat.{ℕ, zero, suc, _/_}
+use Prim.Native.Nat.{ℕ, zero, suc, _/_, _%_}
 use lib.ListN.{length, replicate, drop}
 use Rattle.classfile.specs.declared.Taken.{Taken}
 use Rattle.classfile.specs.Taking.{taken}
@@ -184,6 +184,8 @@ targets =
     -- to an iinc, and to a pair: the first that is written for it
     ∷ writes (154 ∷ 0 ∷ 3 ∷ 132 ∷ 0 ∷ 1 ∷ []) [] 16 (row 6 0 2 ++ row 4 0 0 ++ row 1 0 0 ++ row 5 0 0)
     ∷ writes (154 ∷ 0 ∷ 3 ∷ 42 ∷ 194 ∷ []) [] 8 (row 6 0 2 ++ row 7 0 0)
+    -- a variable's number that reads as an ifne is none
+    ∷ writes (21 ∷ 154 ∷ 0 ∷ 87 ∷ []) [] 8 (row 4 154 0 ++ row 2 0 0)
     -- to the lock byte of a pair, short and long
     ∷ refused (3 ∷ 154 ∷ 0 ∷ 4 ∷ 42 ∷ 194 ∷ 177 ∷ []) [] 40 32 1
     ∷ refused (3 ∷ 154 ∷ 0 ∷ 5 ∷ 25 ∷ 0 ∷ 195 ∷ 177 ∷ []) [] 40 32 1
@@ -273,6 +275,9 @@ ends =
     ∷ refusedFrom (head ++ 255 ∷ 255 ∷ 255 ∷ 242 ∷ 177 ∷ 0 ∷ 0 ∷ []) list 4 30 0
     ∷ refusedFrom (head ++ 255 ∷ 255 ∷ 255 ∷ 243 ∷ 177 ∷ 0 ∷ 0 ∷ []) list 4 30 0
     ∷ refusedFrom (head ++ 255 ∷ 255 ∷ 255 ∷ 255 ∷ 177 ∷ 0 ∷ 0 ∷ []) list 4 30 0
+    -- .. and 0 again, where the first bytes would do for an empty table
+    ∷ refusedFrom (replicate 10 0 ++ 255 ∷ 255 ∷ 255 ∷ 242 ∷ 177 ∷ 0 ∷ 0 ∷ []) list 4 30 0
+    ∷ refusedFrom (replicate 10 0 ++ 255 ∷ 255 ∷ 255 ∷ 240 ∷ 177 ∷ 0 ∷ 0 ∷ []) list 4 30 0
     -- before all else
     ∷ refusedFrom (head ++ 0 ∷ 0 ∷ 0 ∷ 1 ∷ 1 ∷ 0 ∷ 1 ∷ []) list 0 30 0
     ∷ []
@@ -294,3 +299,29 @@ firsts =
 
 abbrev pub cases : List Case
 cases = forms ++ unknowns ++ classes ++ ranges ++ targets ++ rooms ++ ends ++ firsts
+
+-- 33 and 34: a code of n iconst_0, n below 65,536, and what is answered; as computing it would take long, its answers are proved
+pub record Many : Type 0 where
+  pub count : ℕ
+  pub room : ℕ
+  pub answer : Taken
+
+abbrev pub constants : ℕ → List ℕ
+constants n = head ++ 0 ∷ 0 ∷ n / 256 ∷ n % 256 ∷ (replicate n 3 ++ 0 ∷ 0 ∷ [])
+
+abbrev many : ℕ → ℕ → ℕ → ℕ → Many
+many count room number offset = record { count = count; room = room; answer = taken number offset }
+
+abbrev pub manies : List Many
+manies =
+    -- 256 and room for them; for all but the last; for none
+    many 256 1024 0 256
+    ∷ many 256 1023 34 255
+    ∷ many 256 3 34 0
+    -- the 257th is one too many, whatever the room
+    ∷ many 257 1028 33 256
+    ∷ many 257 1024 33 256
+    ∷ many 257 1023 33 256
+    ∷ many 257 0 33 256
+    ∷ many 300 65535 33 256
+    ∷ []
