@@ -2,6 +2,9 @@
 use mathlib.Core.Path.{_≡_, refl}
 use mathlib.Core.List.{List, map}
 use Prim.Native.Nat.{ℕ}
+use native.Mathlib.Omega.{arith}
+use lib.ListN.{length}
+use borrow.Author.Tests.{lt-ltb}
 use Rattle.ground.specs.Bytes.{quad}
 use Rattle.ground.specs.Bounded.{firstBelow, sumBelow}
 use Rattle.ground.specs.Chain.{refuse}
@@ -17,7 +20,7 @@ use Rattle.classfile.specs.declared.Taken.{Taken}
 use Rattle.classfile.specs.Attribute.{tableEnd, whole, codeOf, tableOf}
 use Rattle.classfile.specs.Written.{handlerBy, rowsOf, rowsAt, rowsTo, bytesOf, laidOver}
 use Rattle.classfile.specs.Taking.{judged, takenOf, bytesTaken, left, outOf}
-use Rattle.classfile.specs.Cases.{fresh, Case, from, firsts, cases}
+use Rattle.classfile.specs.Cases.{fresh, Case, from, firsts, cases, Far}
 
 -- what is answered, and what every byte of the buffer holds then
 pub record Given : Type 0 where
@@ -30,3 +33,8 @@ given c = record { answer = takenOf (c .input) (c .classes) (c .room); out = out
 pub cases-hold : map given cases ≡ map (λ (c : Case). record { answer = c .answer; out = c .out }) cases
 unfolding quad firstBelow sumBelow refuse each short aloadOf iincOf javaOf widthOf rawAt rawSize uncut javaAt sizeAt isIndex classNumber leftAt begins givesAt countTo total handlerOf covers coveredBy targetOf lands strayAt firstStray strayEntry firstStrayEntry unknownAt firstUnknown pastAt firstPast tableEnd whole codeOf tableOf handlerBy rowsOf rowsAt rowsTo bytesOf laidOver judged takenOf bytesTaken left outOf from firsts
 cases-hold = refl
+
+pub far : Far
+unfolding targetOf refuse
+far code l =
+    rw (lt-ltb 40000 (length code) l, lt-ltb 32768 (length code) (omega arith), lt-ltb 32767 (length code) (omega arith)) (refl, refl, refl, refl, refl)

@@ -1,7 +1,9 @@
 -- Attributes with what they give, worked out by hand from document 02's sentences.
+use mathlib.Core.Path.{_≡_}
 use mathlib.Core.List.{List, [], _∷_, _++_, map}
-use Prim.Native.Nat.{ℕ, zero, suc, _/_, _%_}
+use Prim.Native.Nat.{ℕ, zero, suc, _/_, _%_, _<_}
 use lib.ListN.{length, replicate, drop}
+use Rattle.offsets.specs.Targets.{targetOf}
 use Rattle.classfile.specs.declared.Taken.{Taken}
 use Rattle.classfile.specs.Taking.{taken}
 
@@ -325,3 +327,10 @@ manies =
     ∷ many 257 0 33 256
     ∷ many 300 65535 33 256
     ∷ []
+
+-- branches over more bytes than these have: the furthest forward and back, to offset 0 and below it, and one byte back
+abbrev pub Far : Type 0
+Far =
+    (code : List ℕ) → 40000 < length code
+    → (targetOf code 40000 32767 ≡ 72767) × (targetOf code 40000 32768 ≡ 7232) × (targetOf code 32768 32768 ≡ 0) × (targetOf code 32767 32768 ≡ length code)
+    × (targetOf code 40000 65535 ≡ 39999)
