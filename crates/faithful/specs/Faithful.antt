@@ -128,17 +128,20 @@ IincGoes =
     isInt (varOf (threadAt s i) v) ≡ true →
     steps b i (x ∷ y ∷ z ∷ []) s .answer ≡ 0
 
--- ---- a whole run: instruction after instruction, and what each is told
+-- ---- a whole run
+-- the steps of instruction after instruction, each told what its list says, as long as they answer 0
 unfoldable pub runs : List ℕ → ℕ → List (List Bool) → State → Stepped
 runs b i [] s = record { answer = 0; state = s }
 runs b i (x ∷ xs) s = andThen (runs b i xs) (steps b i x s)
 
 module _ (classes code table : List ℕ) where
+  -- what the instruction leaves at which the method goes on, if it does
   abbrev pub onward : Left → List Bool → Left
   onward (goes q f) x = does classes code table q (javaAt code q) (told x) f
   onward returned x = returned
   onward uncaught x = uncaught
 
+  -- what so many instructions leave, one after another
   unfoldable pub doing : List (List Bool) → Left → Left
   doing [] l = l
   doing (x ∷ xs) l = doing xs (onward l x)
