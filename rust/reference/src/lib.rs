@@ -24,5 +24,6 @@ pub mod run;
 pub mod shape;
 pub mod slips;
 pub mod state;
+pub mod take;
 mod throws;
 pub mod verify;
