@@ -5,9 +5,11 @@ mod check;
 mod explain;
 mod fill;
 mod levels;
+mod methods;
 mod order;
 mod run;
 mod show;
+mod take;
 mod trace;
 mod usage;
 
@@ -28,7 +30,7 @@ struct Command {
 }
 
 /// Every command, in the order in which the help lists them.
-const COMMANDS: [Command; 9] = [
+const COMMANDS: [Command; 11] = [
     check::COMMAND,
     show::COMMAND,
     explain::COMMAND,
@@ -36,6 +38,8 @@ const COMMANDS: [Command; 9] = [
     order::COMMAND,
     trace::COMMAND,
     run::COMMAND,
+    methods::COMMAND,
+    take::COMMAND,
     usage::COMMAND,
     build::COMMAND,
 ];
@@ -65,7 +69,8 @@ impl Command {
         if words.iter().any(|word| word == "--help") {
             return Ok(Report::done(self.full_help()));
         }
-        if let Some(option) = words.iter().find(|word| is_option(word)) {
+        let unknown = |word: &&OsString| is_option(word) && !self.takes(word);
+        if let Some(option) = words.iter().find(unknown) {
             let option = option.to_string_lossy();
             return Err(self.complaint(&format!("unknown option {option}")));
         }
@@ -80,6 +85,12 @@ impl Command {
 
     fn full_help(&self) -> String {
         format!("{}\n\n{}\n{}\n", self.synopsis(), self.summary, self.help)
+    }
+
+    /// The options that it takes stand among its words.
+    fn takes(&self, option: &OsStr) -> bool {
+        let mut words = self.words.split(['[', ']', ' ']);
+        words.any(|word| option == word)
     }
 
     /// One line on words that the command does not take.

@@ -7,8 +7,9 @@ use std::io::{Error, Read};
 /// One byte more than any bundle has: whatever is longer draws verdict 1.
 const ENOUGH: u64 = 65_536;
 
-/// A schedule may be as long as it likes, but what never ends is none.
-const LONGEST_SCHEDULE: u64 = 1 << 26;
+/// A schedule or a class file may be as long as it likes, but what never ends
+/// is none.
+const LONGEST: u64 = 1 << 26;
 
 /// A bundle, and the name that it was asked for by.
 #[derive(Clone, Debug)]
@@ -25,10 +26,19 @@ impl Input {
 
     /// Reads a schedule, all of it.
     pub fn read_schedule(file: &OsStr) -> Result<Vec<u8>, String> {
-        let Input { name, bytes } = Input::read_up_to(LONGEST_SCHEDULE + 1, file)?;
-        match bytes.len() as u64 > LONGEST_SCHEDULE {
-            true => Err(format!("{name}: more than {LONGEST_SCHEDULE} steps")),
-            false => Ok(bytes),
+        Ok(Input::read_all(file, "steps")?.bytes)
+    }
+
+    /// Reads a class file or a part of one, all of it.
+    pub fn read_class(file: &OsStr) -> Result<Input, String> {
+        Input::read_all(file, "bytes")
+    }
+
+    fn read_all(file: &OsStr, of: &str) -> Result<Input, String> {
+        let input = Input::read_up_to(LONGEST + 1, file)?;
+        match input.bytes.len() as u64 > LONGEST {
+            true => Err(format!("{}: more than {LONGEST} {of}", input.name)),
+            false => Ok(input),
         }
     }
 

@@ -8,8 +8,8 @@ use std::path::PathBuf;
 
 const A: &str = "cases/a.bundle";
 const B: &str = "cases/b.bundle";
-const COMMANDS: [&str; 9] = [
-    "check", "show", "explain", "fill", "order", "trace", "run", "usage", "build",
+const COMMANDS: [&str; 11] = [
+    "check", "show", "explain", "fill", "order", "trace", "run", "methods", "take", "usage", "build",
 ];
 
 /// A file of these bytes; its name is a test's own.
@@ -136,7 +136,7 @@ fn every_command_has_help() {
         assert_eq!((ran.err.as_str(), ran.status), ("", Some(0)));
         assert!(overview.out.contains(&format!("hveitmar {command}")));
     }
-    for command in ["explain", "order", "trace", "run", "usage"] {
+    for command in ["explain", "order", "trace", "run", "methods", "usage"] {
         let help = tool(&[command, "--help"], &[]).out;
         assert!(help.contains("tested, not proved"));
     }

@@ -1,8 +1,8 @@
 /* The proved verifier and machine for C callers: link target/staticlib/libexports.a, which
    `rt staticlib exports` writes. docs/LAW.md says what the numbers mean.
 
-   All calls take any bytes, always come to an end and keep nothing. None writes but hveitmar_run,
-   into the bytes that are lent for it, and hveitmar_fill, into the bundle's pair bytes. */
+   All calls take any bytes, always come to an end and keep nothing. None writes but hveitmar_run and
+   hveitmar_take, into the bytes that are lent for it, and hveitmar_fill, into the bundle's pair bytes. */
 #ifndef HVEITMAR_H
 #define HVEITMAR_H
 
@@ -74,6 +74,14 @@ uint64_t hveitmar_run(const uint8_t *bundle, size_t length, const uint8_t *sched
    hveitmar_end and hveitmar_reliable take the number apart. */
 uint64_t hveitmar_usage(const uint8_t *text, size_t length);
 
+/* Takes a method from a class file: reads its Code attribute, which begins with the index of its name,
+   and writes a record's instructions into out, four bytes each. The classes are indices of the constant
+   pool, two bytes each, the upper one first; the first eight are read, and a class number is the first
+   place of its index. hveitmar_take_answer is 0, or refused: 30 to 34. The rest of out stays as it is,
+   and on a refusal all does. */
+uint64_t hveitmar_take(const uint8_t *attribute, size_t length, const uint8_t *classes,
+                       size_t classes_length, uint8_t *out, size_t out_length);
+
 /* Of a verdict 0: accepted; 1 to 10: refused; under a lock order also 25: a lock is taken out of
    order, and 26: there are not eight levels. Of pairs 0: written; 1 to 8, 22 and 23: refused. Of a
    usage 0: read; 40 to 43: refused. */
@@ -112,6 +120,12 @@ static inline uint64_t hveitmar_run_steps(uint64_t run) { return run >> 8; }
 
 /* The bundle's verdict, where the answer is 19. */
 static inline uint64_t hveitmar_run_verdict(uint64_t run) { return run >> 8; }
+
+/* 0, or 30 to 34. */
+static inline unsigned hveitmar_take_answer(uint64_t taken) { return taken & 0xFF; }
+
+/* How many instructions were written; of a refusal, the first offender's offset in the code. */
+static inline uint32_t hveitmar_take_number(uint64_t taken) { return (uint32_t)(taken >> 32); }
 
 /* How far below its present count a thread may go, 0 to 63; of a refusal 0. */
 static inline unsigned hveitmar_dip(uint64_t usage) { return usage >> 8 & 0xFF; }

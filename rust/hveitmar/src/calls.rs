@@ -1,7 +1,9 @@
 //! The C calls of the proved library; the only unsafe lines are here.
 #![allow(unsafe_code)]
 
-use crate::{Held, Met, Refusal, Run, RunRefusal, Usage, UsageRefusal, Verdict, STATE_BYTES};
+use crate::{
+    Held, Met, Refusal, Run, RunRefusal, TakeRefusal, Usage, UsageRefusal, Verdict, STATE_BYTES,
+};
 
 extern "C" {
     fn hveitmar_verdict(bundle: *const u8, length: usize) -> u64;
@@ -45,6 +47,14 @@ extern "C" {
         out_length: usize,
     ) -> u64;
     fn hveitmar_usage(text: *const u8, length: usize) -> u64;
+    fn hveitmar_take(
+        attribute: *const u8,
+        length: usize,
+        classes: *const u8,
+        classes_length: usize,
+        out: *mut u8,
+        out_length: usize,
+    ) -> u64;
 }
 
 /// Judges a bundle: accepted, or the first rule that it breaks.
@@ -336,4 +346,40 @@ pub fn usage(text: &[u8]) -> Result<Usage, UsageRefusal> {
     // SAFETY: as in `verify`.
     let packed = unsafe { hveitmar_usage(text.as_ptr(), text.len()) };
     Usage::unpacked(packed).unwrap_or_else(|| panic!("{packed:x} is no answer of a usage"))
+}
+
+/// Takes a method from a class file: reads its Code attribute and writes a
+/// record's instructions into lent bytes, four for each; gives how many. The
+/// rest stays as it is, and on a refusal all does.
+///
+/// The attribute begins with the index of its name, and what comes behind its
+/// exception table is not read. A class number is the first place of its index
+/// in the constant pool among the first eight of `classes`.
+///
+/// ```
+/// use hveitmar::{take, TakeRefusal};
+///
+/// // aload_0, monitorenter, aload_0, monitorexit, return.
+/// let head = [0, 1, 0, 0, 0, 17, 0, 1, 0, 1, 0, 0, 0, 5];
+/// let attribute = [&head[..], &[0x2A, 0xC2, 0x2A, 0xC3, 0xB1], &[0; 4]].concat();
+/// let mut out = [7; 16];
+/// assert_eq!(take(&attribute, &[], &mut out), Ok(3));
+/// assert_eq!(out, [7, 0, 0, 0, 8, 0, 0, 0, 12, 0, 0, 0, 7, 7, 7, 7]);
+/// let refused = take(&attribute, &[], &mut out[..8]);
+/// assert_eq!(refused, Err(TakeRefusal::Room { offset: 4 }));
+/// ```
+pub fn take(attribute: &[u8], classes: &[u16], out: &mut [u8]) -> Result<usize, TakeRefusal> {
+    let classes: Vec<u8> = classes.iter().flat_map(|c| c.to_be_bytes()).collect();
+    // SAFETY: as in `run_into`.
+    let packed = unsafe {
+        hveitmar_take(
+            attribute.as_ptr(),
+            attribute.len(),
+            classes.as_ptr(),
+            classes.len(),
+            out.as_mut_ptr(),
+            out.len(),
+        )
+    };
+    TakeRefusal::unpacked(packed).unwrap_or_else(|| panic!("{packed:x} is no answer of taking"))
 }
