@@ -17,6 +17,7 @@ pub mod records;
 mod refused;
 pub mod runs;
 pub mod states;
+pub mod takings;
 pub mod texts;
 pub mod traces;
 pub mod verdicts;

@@ -2,6 +2,7 @@
 
 use reference::bundle::Verdict;
 use reference::entries::Raw;
+use reference::take;
 use usages::Answer;
 
 pub use hveitmar::{answers, digest, record, STATE_BYTES};
@@ -71,5 +72,19 @@ pub fn usage(text: &[u8]) -> Answer {
             reliable,
         },
         Err(refusal) => Answer::refused(refusal.number()),
+    }
+}
+
+/// What the proved call says of a method, and writes.
+pub fn take(attribute: &[u8], classes: &[u16], out: &mut [u8]) -> take::Answer {
+    match hveitmar::take(attribute, classes, out) {
+        Ok(count) => take::Answer {
+            number: 0,
+            value: count as u32,
+        },
+        Err(refusal) => take::Answer {
+            number: refusal.number(),
+            value: refusal.offset(),
+        },
     }
 }

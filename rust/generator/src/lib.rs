@@ -1,6 +1,8 @@
-//! Bundles, with their pairs and without, lists of levels, states, schedules and
-//! texts of usages by seed: the same seed always gives the same.
+//! Bundles, with their pairs and without, lists of levels, states, schedules,
+//! texts of usages and methods of class files by seed: the same seed always gives
+//! the same.
 
+pub mod attributes;
 pub mod builder;
 pub mod families;
 pub mod levels;

@@ -1,5 +1,5 @@
-//! Holds the proved verifier, machine and reader of usages against the
-//! references.
+//! Holds the proved verifier, machine, reader of usages and taker of methods
+//! against the references.
 //!
 //! `compare [bundles] [schedules] [first seed] [part]`; with the name of a part
 //! only that is compared. Ends with status 1 if anything differs, could not be
@@ -14,6 +14,7 @@ use comparison::progress::Progress;
 use comparison::records::Records;
 use comparison::runs::Runs;
 use comparison::states::States;
+use comparison::takings::Takings;
 use comparison::texts::Texts;
 use comparison::traces::Traces;
 use comparison::verdicts::Verdicts;
@@ -32,6 +33,8 @@ const BUNDLES_AN_ORDER: u64 = 10;
 const BUNDLES_A_RECORD: u64 = 10;
 /// One text of a usage for so many bundles.
 const BUNDLES_A_TEXT: u64 = 5;
+/// One method of a class file for so many bundles.
+const BUNDLES_AN_ATTRIBUTE: u64 = 3;
 /// One run watched for progress for so many schedules: after each step all
 /// threads are tried.
 const SCHEDULES_A_WATCHED_RUN: u64 = 4;
@@ -103,6 +106,7 @@ fn parts(bundles: u64, schedules: u64) -> Result<Vec<Share>, Error> {
         share("traces", traces, schedules, SCHEDULES_A_TRACE),
         share("states", states, schedules, SCHEDULES_A_STATED_RUN),
         share("texts", texts, bundles, BUNDLES_A_TEXT),
+        share("methods", Takings::default(), bundles, BUNDLES_AN_ATTRIBUTE),
     ])
 }
 

@@ -13,11 +13,14 @@
 //! something else. For a slip of the call that runs a list: a bundle and a list
 //! that come to something else. For a slip of the call that works pairs out: a
 //! bundle that it answers otherwise or in which it writes something else. For a
-//! slip of the reader of usages: a text that it answers otherwise.
+//! slip of the reader of usages: a text that it answers otherwise. For a slip of
+//! taking methods: an attribute of which it says or writes something else.
 
 use comparison::lists;
 use comparison::orders::{inputs, Input};
 use comparison::progress::{next_answers, stands_still};
+use comparison::takings::taken_by;
+use generator::attributes::taking;
 use generator::families::{nesting, recurring, sharing, typed};
 use generator::pairs::unpaired;
 use generator::rng::Rng;
@@ -31,6 +34,7 @@ use reference::met::met_in;
 use reference::run::{run, Ran};
 use reference::slips::Slip;
 use reference::state::{OBJECTS, THREADS};
+use reference::take::{self, take};
 use reference::verify::{verify, verify_ordered};
 use std::process::ExitCode;
 use usages::slips::SLIPS;
@@ -41,6 +45,10 @@ const SCHEDULES: u64 = 20;
 const STEPS: usize = 400;
 const HELD_STEPS: usize = 20;
 const TEXTS: u64 = 20_000;
+const ATTRIBUTES: u64 = 20_000;
+
+/// What takes a method.
+type Taker = fn(&[u8], &[u16], &mut [u8]) -> take::Answer;
 
 fn main() -> ExitCode {
     let verifier = Slip::VERIFIER.map(|slip| (slip, (0..BUNDLES).find_map(|s| caught(slip, s))));
@@ -58,11 +66,15 @@ fn main() -> ExitCode {
         let found = (0..TEXTS).find_map(|seed| misread(slipped, seed));
         (name.to_string(), found)
     });
+    let taker = take::slips::SLIPS.map(|(name, slipped)| {
+        let found = (0..ATTRIBUTES).find_map(|seed| mistaken(slipped, seed));
+        (name.to_string(), found)
+    });
     let mut all_found = true;
     let all = verifier.into_iter().chain(machine).chain(words);
     let all = all.chain(histories).chain(standstill).chain(order);
     let all = all.chain(lists).chain(pairs).map(named);
-    for (slip, found) in all.chain(reader) {
+    for (slip, found) in all.chain(reader).chain(taker) {
         all_found &= found.is_some();
         println!("{slip}: {}", found.unwrap_or("not found".to_string()));
     }
@@ -265,4 +277,16 @@ fn misread(slipped: fn(&[u8]) -> Answer, seed: u64) -> Option<String> {
     let (other, truth) = (slipped(&text), answer_of(&text));
     let text = text.escape_ascii();
     (other != truth).then(|| format!("seed {seed} {text} is \"{other}\" for \"{truth}\""))
+}
+
+/// An attribute of which the slipped taker says or writes something else.
+fn mistaken(slipped: Taker, seed: u64) -> Option<String> {
+    let (_, taking) = taking(seed);
+    let (other, other_bytes) = taken_by(slipped, &taking, seed);
+    let (truth, bytes) = taken_by(take, &taking, seed);
+    if other != truth {
+        return Some(format!("seed {seed} is {other:?} for {truth:?}"));
+    }
+    let first = other_bytes.iter().zip(bytes).position(|(&a, b)| a != b);
+    first.map(|at| format!("seed {seed} {truth:?}, byte {at} is another"))
 }
