@@ -11,6 +11,7 @@
 mod flags;
 mod measure;
 mod table;
+mod takes;
 
 use comparison::digest;
 use comparison::proved;
@@ -65,6 +66,10 @@ fn main() {
         );
         table::header(Last::Verify);
         fill_lines(rounds);
+    }
+    if wanted("take") {
+        println!("\nmethods taken from class files; bytes are those of the code");
+        takes::print(rounds);
     }
 }
 
