@@ -80,16 +80,16 @@ fn branches() -> Vec<u8> {
     (0..LONGEST).step_by(3).flat_map(branch).collect()
 }
 
-/// 256 athrows that none of the most entries that a table has covers.
+/// 256 athrows that none of so many entries covers.
 fn uncovered() -> Vec<u8> {
-    attribute(&[0xBF; 256], &[[400, 500, 0, 0]; LONGEST])
+    attribute(&[0xBF; 256], &[[400, 500, 0, 0]; 4_096])
 }
 
 /// A line for each method.
 pub fn print(rounds: usize) {
     println!(
         "{:<47} {:>6} {:>10} {:>12} {:>6}  {:<14} {:>8} {:>6}",
-        "what", "bytes", "proved ns", "Rust ns", "ratio", "min .. max", "ns/byte", "GB/s"
+        "what", "bytes", "proved ns", "Rust ns", "ratio", "min .. max", "ns/byte", "MB/s"
     );
     let plain = |code: &[u8]| attribute(code, &[]);
     line(rounds, "take 32 bytes, all kinds", plain(&mixed(32)), 32);
@@ -107,7 +107,7 @@ pub fn print(rounds: usize) {
     for (name, code) in longest {
         line(rounds, name, plain(&code), LONGEST);
     }
-    line(rounds, "take 256 athrows, 65535 handlers", uncovered(), 256);
+    line(rounds, "take 256 athrows, 4096 handlers", uncovered(), 256);
 }
 
 fn line(rounds: usize, name: &str, attribute: Vec<u8>, bytes: usize) {
@@ -123,13 +123,13 @@ fn line(rounds: usize, name: &str, attribute: Vec<u8>, bytes: usize) {
     let times = Times::measure(rounds, &[attribute], &sides);
     let (proved, ratio) = (times.of(0), times.ratio(0, 1));
     println!(
-        "{:<47} {bytes:>6} {proved:>10.1} {:>12.1} {:>6.2}  {:<14} {:>8.3} {:>6.2}",
+        "{:<47} {bytes:>6} {proved:>10.1} {:>12.1} {:>6.2}  {:<14} {:>8.1} {:>6.0}",
         format!("{name}: {}", told(answer.number)),
         times.of(1),
         ratio.middle,
         format!("{:.2} .. {:.2}", ratio.low, ratio.high),
         proved / bytes as f64,
-        bytes as f64 / proved
+        1_000.0 * bytes as f64 / proved
     );
 }
 
