@@ -1,0 +1,4 @@
+pub mod Over
+pub mod Sums
+pub mod Lengths
+pub mod Refusals

@@ -1,0 +1,5 @@
+pub mod Given
+pub mod Lengths
+pub mod Laid
+pub mod Laying
+pub mod Loops
