@@ -20,7 +20,7 @@ use Rattle.laying.specs.Given.{given, numbersAt}
 use Rattle.laying.specs.Lengths.{codeBytes, entries, kindBytes, descriptorsBefore, instructionsBefore, kindsBefore, depthsBefore, recordsBefore, lengthsOk, whole}
 use Rattle.laying.specs.Laid.{word, entryLaid, entriesLaid, rowLaid, recordLaid, cut, recordOf, headLaid, trailerLaid, laid}
 use Rattle.laying.specs.Loops.{Lays, Room, sizesOf, more, Measured, Within}
-use Rattle.laying.proofs.Over.{lays-then, room-next}
+use Rattle.laying.proofs.Over.{lays-then}
 
 -- ---- sums
 pub sum-part : (f : ℕ → ℕ) (n c : ℕ) → c < n → sumBelow c f + f c ≤ sumBelow n f
@@ -165,7 +165,7 @@ module _ {n : ℕ} {d ds is ts ps : List ℕ} (m : Measured n d ds is ts ps) (x 
     pub records-end : p ≡ recordsBefore d n
     records-end = omega (arith, a .next, records-long m n (omega arith))
 
-    pub heads-room : Room out 0 (each n (recordOf d ds is ts ps) ++ each n (headLaid d))
+    heads-room : Room out 0 (each n (recordOf d ds is ts ps) ++ each n (headLaid d))
     unfolding whole
     heads-room = omega (arith, length-append (each n (recordOf d ds is ts ps)) (each n (headLaid d)), records-long m n (omega arith), heads-long m n (omega arith))
 
@@ -176,9 +176,6 @@ module _ {n : ℕ} {d ds is ts ps : List ℕ} (m : Measured n d ds is ts ps) (x 
       all-room : Room out 0 (each n (recordOf d ds is ts ps) ++ each n (headLaid d) ++ trailerLaid (recordsBefore d n) n x (whole d n))
       unfolding laid
       all-room = omega (arith, laid-long m x)
-
-      pub trailer-room : (w : ℕ) → w ≡ whole d n → Room o₂ q (trailerLaid p n x w)
-      trailer-room w e = rw (e, records-end) (room-next out 0 both _ all-room)
 
       pub bundle-laid : {r : ℕ} {o₃ : List ℕ} (w : ℕ) → w ≡ whole d n → Lays o₂ q (trailerLaid p n x w) r o₃ → Lays out 0 (laid (given n x d ds is ts ps)) r o₃
       unfolding laid

@@ -1,7 +1,6 @@
 use native.Mathlib.Omega.{arith}
 use Rattle.laying.specs.Lengths.{whole}
-use Rattle.laying.proofs.Lengths.{records-room, records-end, heads-room, trailer-room, bundle-laid}
-use Rattle.laying.proofs.Over.{room-next}
+use Rattle.laying.proofs.Lengths.{heads-long, trailer-long, records-room, records-end, bundle-laid}
 use borrow.Author.Needs.{needs}
 use Rattle.laying.proofs.lay_bundle.Statement.{statement}
 use Rattle.laying.proofs.lay_bundle.Tie as tie
@@ -11,14 +10,14 @@ lay-records-requires c κs = (c .before .before .before .before .before .before 
 
 lay-directory-requires : tie.Need-lay-directory-requires
 unfolding whole
-lay-directory-requires c κs = (c .before .before .before .before .before .before .before .before .before .before .before .pre .0 .most, c .before .before .before .before .before .before .before .before .before .before .before .pre .0 .directory, omega arith, room-next _ _ (c .before .before .before .lay-records .ensures) _ (heads-room (c .before .before .before .before .before .before .before .before .before .before .before .pre .0) 0 _ (c .before .before .before .before .before .before .before .before .before .before .before .pre .1 .1) (c .before .before .before .lay-records .ensures)))
+lay-directory-requires c κs = let e = records-end (c .before .before .before .before .before .before .before .before .before .before .before .pre .0) 0 _ (c .before .before .before .before .before .before .before .before .before .before .before .pre .1 .1) (c .before .before .before .lay-records .ensures) in let h = heads-long (c .before .before .before .before .before .before .before .before .before .before .before .pre .0) (c .before .before .before .before .before .before .before .before .before .before .before .args .n) (search needs) in (c .before .before .before .before .before .before .before .before .before .before .before .pre .0 .most, c .before .before .before .before .before .before .before .before .before .before .before .pre .0 .directory, omega arith, omega arith)
 
 whole-requires : tie.Need-whole-requires
 whole-requires c κs = c .before .before .before .before .before .before .before .before .before .before .before .before .before .before .pre .0 .most
 
 lay-trailer-requires : tie.Need-lay-trailer-requires
 unfolding whole
-lay-trailer-requires c κs = (omega (arith, records-end (c .before .before .before .before .before .before .before .before .before .before .before .before .before .before .before .before .pre .0) 0 _ (c .before .before .before .before .before .before .before .before .before .before .before .before .before .before .before .before .pre .1 .1) (c .before .before .before .before .before .before .before .before .lay-records .ensures)), omega (arith, c .before .whole .ensures), trailer-room (c .before .before .before .before .before .before .before .before .before .before .before .before .before .before .before .before .pre .0) _ _ (c .before .before .before .before .before .before .before .before .before .before .before .before .before .before .before .before .pre .1 .1) (c .before .before .before .before .before .before .before .before .lay-records .ensures) (c .before .before .before .before .lay-directory .ensures) _ (c .before .whole .ensures))
+lay-trailer-requires c κs = let e = records-end (c .before .before .before .before .before .before .before .before .before .before .before .before .before .before .before .before .pre .0) 0 _ (c .before .before .before .before .before .before .before .before .before .before .before .before .before .before .before .before .pre .1 .1) (c .before .before .before .before .before .before .before .before .lay-records .ensures) in let h = heads-long (c .before .before .before .before .before .before .before .before .before .before .before .before .before .before .before .before .pre .0) (c .before .before .before .before .before .before .before .before .before .before .before .before .before .before .before .before .args .n) (search needs) in let t = trailer-long (c .before .before .before .before .before .before .before .before .lay-records .result) (c .before .before .before .before .before .before .before .before .before .before .before .before .before .before .before .before .args .n) (c .before .before .before .before .before .before .before .before .before .before .before .before .before .before .before .before .args .exception) (c .before .whole .result) in (omega arith, omega (arith, c .before .whole .ensures), omega (arith, c .before .before .before .before .lay-directory .ensures .next))
 
 same-length : tie.Need-same-length
 same-length c = search needs
