@@ -138,7 +138,7 @@ impl Limits {
     }
 
     /// The limits of the directory; class 0 is main and takes no argument.
-    fn hold(&self, class: u8) -> bool {
+    pub(crate) fn hold(&self, class: u8) -> bool {
         self.arguments <= self.variables
             && self.variables <= 16
             && self.stack <= 16

@@ -9,6 +9,7 @@ pub mod bundle;
 pub mod demand;
 pub mod entries;
 pub mod fill;
+pub mod gate;
 pub mod growth;
 pub mod history;
 pub mod instructions;

@@ -6,6 +6,7 @@
 
 use crate::bundle::Bundle;
 use crate::fill;
+use crate::gate::{self, Gated, Parts};
 use crate::history::{History, Numbers};
 use crate::levels::Demands;
 use crate::machine::{self, answer, State};
@@ -35,7 +36,7 @@ impl Law for AsWritten {
 /// let through by it leads to, the machine's, those of the held words, those of
 /// histories, those of the lock order (after some of these all threads may wait,
 /// others refuse too much or name another breach), those of lists that are run,
-/// and those of pairs that are worked out.
+/// those of pairs that are worked out, and those of the weaver's gate.
 macro_rules! slips {
     (
         verifier { $($(#[$said:meta])* $judging:ident => $fault:ident,)* }
@@ -46,6 +47,7 @@ macro_rules! slips {
         order { $($(#[$ranked:meta])* $ranking:ident,)* }
         lists { $($(#[$ran:meta])* $running:ident,)* }
         pairs { $($(#[$found:meta])* $filling:ident,)* }
+        gate { $($(#[$passed:meta])* $weaving:ident,)* }
     ) => {
         /// One mistake.
         #[derive(Clone, Copy, Debug, PartialEq, Eq)]
@@ -58,6 +60,7 @@ macro_rules! slips {
             $($(#[$ranked])* $ranking,)*
             $($(#[$ran])* $running,)*
             $($(#[$found])* $filling,)*
+            $($(#[$passed])* $weaving,)*
         }
 
         /// A law for each slip.
@@ -120,6 +123,13 @@ macro_rules! slips {
                     const SLIP: Option<Slip> = Some(Slip::$filling);
                 }
             )*
+            $(
+                pub struct $weaving;
+
+                impl Law for $weaving {
+                    const SLIP: Option<Slip> = Some(Slip::$weaving);
+                }
+            )*
         }
 
         impl Slip {
@@ -152,6 +162,9 @@ macro_rules! slips {
 
             /// Slips of the call that works the pairs out.
             pub const PAIRS: [Slip; [$(Slip::$filling),*].len()] = [$(Slip::$filling),*];
+
+            /// Slips of the weaver's gate.
+            pub const GATE: [Slip; [$(Slip::$weaving),*].len()] = [$(Slip::$weaving),*];
 
             /// The fault that a bundle let through by this slip leads to; None
             /// for those that are not the verifier's.
@@ -249,6 +262,14 @@ macro_rules! slips {
                 match self {
                     $(Slip::$filling => fill::fill_by::<laws::$filling>(b),)*
                     _ => fill::fill(b),
+                }
+            }
+
+            /// What one who makes this slip answers to a weaver.
+            pub fn gate(self, parts: &Parts, out: &mut [u8]) -> Gated {
+                match self {
+                    $(Slip::$weaving => gate::gate_by::<laws::$weaving>(parts, out),)*
+                    _ => gate::gate(parts, out),
                 }
             }
         }
@@ -443,5 +464,48 @@ slips! {
         SharedBeforeRows,
         /// With 22 the pairs that come nearest are written.
         RefusedIsFilled,
+    }
+    gate {
+        /// The directory stands before the records.
+        DirectoryFirst,
+        /// Kinds are read with the class first.
+        ClassBeforeKind,
+        /// The kinds of a row are read with its stack first.
+        StackBeforeVariables,
+        /// The depth of a class's second row is passed over, and those behind it
+        /// move up.
+        DepthRowSkipped,
+        /// The number of instructions is read with its low byte first.
+        CodeLowByteFirst,
+        /// The exception class is not written.
+        ExceptionNotWritten,
+        /// The exception class is taken modulo 256.
+        ExceptionOfOneByte,
+        /// The class count is taken modulo 256.
+        CountOfOneByte,
+        /// The whole length is taken modulo 65,536.
+        LengthOfTwoBytes,
+        /// A slice may be longer than is asked.
+        LongerTaken,
+        /// 24 comes before 27.
+        RoomBeforeLengths,
+        /// 24 comes before what the bundle draws.
+        RoomBeforePairs,
+        /// 3 comes before 1.
+        ThrownBeforeLength,
+        /// 4 comes before 3.
+        LimitsBeforeThrown,
+        /// A malformed row draws 22, since no pairs do for it.
+        MalformedHasNoPairs,
+        /// An output that is just long enough is too short.
+        ExactIsTooShort,
+        /// A refusal clears the first byte of the output.
+        RefusalWrites,
+        /// What lies behind the bundle is cleared.
+        RestIsCleared,
+        /// The bundle is written without its pairs.
+        PairsLeftOut,
+        /// The length given is that of the output.
+        LengthOfOutput,
     }
 }

@@ -14,6 +14,8 @@ mod bundle;
 mod entries;
 #[path = "../../reference/src/fill.rs"]
 mod fill;
+#[path = "../../reference/src/gate.rs"]
+mod gate;
 #[path = "../../reference/src/history.rs"]
 mod history;
 #[path = "../../reference/src/instructions.rs"]
