@@ -1,6 +1,6 @@
-//! Bundles, with their pairs and without, lists of levels, states, schedules,
-//! texts of usages and methods of class files by seed: the same seed always gives
-//! the same.
+//! Bundles, with their pairs and without, what a weaver hands over, lists of
+//! levels, states, schedules, texts of usages and methods of class files by seed:
+//! the same seed always gives the same.
 
 pub mod attributes;
 pub mod builder;
@@ -13,4 +13,5 @@ pub mod rng;
 pub mod schedule;
 pub mod texts;
 pub mod two_locks;
+pub mod weaves;
 pub mod words;
