@@ -1,12 +1,12 @@
 //! Proved code against the reference, both in one run on the same inputs.
 //!
-//! `bench [rounds] [verify | run | fill]` prints, for each input or for those of
+//! `bench [rounds] [verify | run | fill | gate]` prints, for each input or for those of
 //! one table, nanoseconds a call (medians) and the ratios proved / another side:
 //! their median over the rounds, and their spread. The other sides are the
 //! reference, the same without checks of its indices, which is the limit of its
 //! algorithm, and one read of the bytes, which is memory's; of lists that are run
 //! at once, the proved single steps; of pairs that are worked out, the proved
-//! verifier.
+//! verifier; of the weaver's gate, the proved call that works pairs out.
 
 mod flags;
 mod measure;
@@ -17,9 +17,11 @@ use comparison::digest;
 use comparison::proved;
 use generator::builder::{case_a, lay_out};
 use generator::families::sized;
-use measure::side;
+use generator::weaves::OwnedParts;
+use measure::{side, side_of};
 use reference::entries::Entry;
 use reference::fill::fill;
+use reference::gate::gate;
 use reference::run::run;
 use reference::verify::{verify, Verdict};
 use std::hint::black_box;
@@ -64,12 +66,21 @@ fn main() {
              hveitmar_fill; Rust: the reference's longest paths; verify: the proved verifier on the \
              bundle as it is filled, and times: proved / verify"
         );
-        table::header(Last::Verify);
+        table::header(Last::Proved("verify"));
         fill_lines(rounds);
     }
     if wanted("take") {
         println!("\nmethods taken from class files; bytes are those of the code");
         takes::print(rounds);
+    }
+    if wanted("gate") {
+        println!(
+            "\nthe weaver's gate, each call into an output that it makes first. proved: hveitmar_gate; \
+             Rust: the reference's; fill: the proved call that works the pairs of the same bundle out, \
+             in a copy that it makes first, and times: proved / fill"
+        );
+        table::header(Last::Proved("fill"));
+        gate_lines(rounds);
     }
 }
 
@@ -251,7 +262,49 @@ fn fill_line(rounds: usize, name: &str, bundles: &[Vec<u8>]) {
             side(|b| u64::from(fill(&mut b.to_vec()).number)),
             side(|b| u64::from(hveitmar::verify(b).number())),
         ],
-        last: Last::Verify,
+        last: Last::Proved("verify"),
+    };
+    line.print(rounds);
+}
+
+fn gate_lines(rounds: usize) {
+    gate_line(rounds, "case A", &[lay_out(&[case_a()])]);
+    gate_line(rounds, "typical", &sized::typical(2_000, 32));
+    gate_line(rounds, "full", &sized::full(8));
+    let block = sized::striped(65_000, 4, 3);
+    gate_line(rounds, "64 KB, one block again and again", &[block]);
+    let wide = sized::striped(65_000, 16, 16);
+    gate_line(rounds, "64 KB, the same with V 16, K 16", &[wide]);
+}
+
+fn gate_line(rounds: usize, name: &str, bundles: &[Vec<u8>]) {
+    let apart = bundles.iter().filter_map(|bundle| {
+        let (parts, mut filled) = (OwnedParts::of(bundle)?, bundle.clone());
+        let room = bundle.len();
+        let (mut proved, mut reference) = (vec![0; room], vec![0; room]);
+        let gated = proved::gate(&parts.lent(), &mut proved);
+        assert_eq!(gated, gate(&parts.lent(), &mut reference));
+        assert_eq!(gated.verdict, proved::fill(&mut filled));
+        assert!(proved == reference && proved == filled);
+        Some((parts, room))
+    });
+    let apart: Vec<(OwnedParts, usize)> = apart.collect();
+    assert_eq!(apart.len(), bundles.len());
+    let line = Line {
+        name: format!("gate {name}"),
+        bundles,
+        steps: 1,
+        sides: vec![
+            side_of(&apart, |(parts, room)| {
+                let written = weaver::gate(&proved::lent(&parts.lent()), &mut vec![0; *room]);
+                written.map_or(0, |written| written.length as u64)
+            }),
+            side_of(&apart, |(parts, room)| {
+                gate(&parts.lent(), &mut vec![0; *room]).length as u64
+            }),
+            side(|b| u64::from(hveitmar::fill(&mut b.to_vec()).unwrap_or(0))),
+        ],
+        last: Last::Proved("fill"),
     };
     line.print(rounds);
 }

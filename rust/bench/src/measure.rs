@@ -25,6 +25,19 @@ pub fn side<'a>(call: impl Fn(&[u8]) -> u64 + 'a) -> Side<'a> {
     })
 }
 
+/// A side that makes this call for each of its own inputs, one for each bundle.
+pub fn side_of<'a, T>(inputs: &'a [T], call: impl Fn(&T) -> u64 + 'a) -> Side<'a> {
+    Box::new(move |_, repeats| {
+        let begin = Instant::now();
+        for _ in 0..repeats {
+            for input in inputs {
+                black_box(call(black_box(input)));
+            }
+        }
+        begin.elapsed()
+    })
+}
+
 /// Lowest, middle and highest of the rounds.
 #[derive(Clone, Copy)]
 pub struct Spread {

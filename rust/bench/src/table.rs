@@ -16,13 +16,13 @@ pub enum Last {
     Read,
     /// So many steps, each a call of the proved machine.
     Steps(usize),
-    /// The proved verifier; there is no unchecked side beside it.
-    Verify,
+    /// The proved call of this name; there is no unchecked side beside it.
+    Proved(&'static str),
 }
 
 impl Last {
     fn has_unchecked(self) -> bool {
-        self != Last::Verify
+        !matches!(self, Last::Proved(_))
     }
 }
 
@@ -50,7 +50,10 @@ pub fn header(last: Last) {
             "{:>9} {:>6}  {:<14} {:>8}",
             "step ns", "times", "min .. max", "Msteps/s"
         ),
-        Last::Verify => format!("{:>9} {:>6}  {:<14}", "verify ns", "times", "min .. max"),
+        Last::Proved(name) => {
+            let name = format!("{name} ns");
+            format!("{name:>9} {:>6}  {:<14}", "times", "min .. max")
+        }
     };
     let unchecked = match has_unchecked {
         true => against("unchecked ns"),
@@ -113,11 +116,11 @@ impl Line<'_> {
                     1_000.0 / proved
                 )
             }
-            Last::Verify => {
+            Last::Proved(_) => {
                 let ratio = times.ratio(PROVED, last);
-                let spread = format!("{:.1} .. {:.1}", ratio.low, ratio.high);
+                let spread = format!("{:.2} .. {:.2}", ratio.low, ratio.high);
                 format!(
-                    "{:>9.1} {:>6.1}  {spread:<14}",
+                    "{:>9.1} {:>6.2}  {spread:<14}",
                     times.of(last),
                     ratio.middle
                 )

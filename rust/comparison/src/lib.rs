@@ -4,6 +4,7 @@ pub mod choices;
 mod differences;
 pub mod digest;
 pub mod fillings;
+pub mod gates;
 mod histories;
 pub mod holdings;
 pub mod lists;

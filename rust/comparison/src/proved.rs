@@ -2,6 +2,7 @@
 
 use reference::bundle::Verdict;
 use reference::entries::Raw;
+use reference::gate::{Gated, Parts};
 use reference::take;
 use usages::Answer;
 
@@ -34,6 +35,33 @@ pub fn fill(bundle: &mut [u8]) -> Verdict {
     match hveitmar::fill(bundle) {
         Ok(classes) => Verdict::new(0, classes, 0),
         Err(refusal) => refused(refusal),
+    }
+}
+
+/// What the proved gate answers.
+pub fn gate(parts: &Parts, out: &mut [u8]) -> Gated {
+    match weaver::gate(&lent(parts), out) {
+        Ok(weaver::Written { classes, length }) => Gated {
+            verdict: Verdict::new(0, classes, 0),
+            length,
+        },
+        Err(refusal) => Gated {
+            verdict: Verdict::new(refusal.number(), refusal.class(), refusal.address()),
+            length: 0,
+        },
+    }
+}
+
+/// What is handed over, in the types of the proved side.
+pub fn lent<'a>(parts: &Parts<'a>) -> weaver::Parts<'a> {
+    weaver::Parts {
+        classes: parts.classes,
+        exception: parts.exception,
+        directory: parts.directory,
+        descriptors: parts.descriptors,
+        instructions: parts.instructions,
+        kinds: parts.kinds,
+        depths: parts.depths,
     }
 }
 

@@ -1,5 +1,6 @@
 //! The proved code behind its C calls, on the cases of document 01.
 
+use comparison::gates::blank;
 use comparison::orders::{inputs, Input};
 use comparison::{digest, lists, proved};
 use generator::builder::{case_a, lay_out, Method, Row};
@@ -7,6 +8,7 @@ use generator::families::{self, recurring, sharing, typed};
 use generator::pairs::unpaired;
 use generator::rng::Rng;
 use generator::schedule::{any_state, schedule};
+use generator::weaves::weave;
 use reference::bundle::{Addr, Bundle, Instr, Verdict};
 use reference::entries::Entry;
 use reference::history::{Event, History, Numbers};
@@ -292,6 +294,21 @@ fn slipped_pairs_differ_from_the_proved_ones() {
             let mut slipped = b.clone();
             let told = slip.fill(&mut slipped);
             *count += usize::from(told != proved || slipped != filled);
+        }
+    }
+    assert!(differing.iter().all(|&(_, n)| n >= 10), "{differing:?}");
+}
+
+#[test]
+fn a_slipped_gate_differs_from_the_proved_one() {
+    let mut differing = Slip::GATE.map(|slip| (slip, 0));
+    for weave in (0..3_000).map(weave) {
+        let (parts, mut out) = (weave.parts.lent(), blank(weave.room));
+        let proved = proved::gate(&parts, &mut out);
+        for (slip, count) in &mut differing {
+            let mut slipped = blank(weave.room);
+            let told = slip.gate(&parts, &mut slipped);
+            *count += usize::from(told != proved || slipped != out);
         }
     }
     assert!(differing.iter().all(|&(_, n)| n >= 10), "{differing:?}");

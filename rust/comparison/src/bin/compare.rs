@@ -6,6 +6,7 @@
 //! compared, or never came up.
 
 use comparison::fillings::Fillings;
+use comparison::gates::Gates;
 use comparison::holdings::Holdings;
 use comparison::meetings::Meetings;
 use comparison::order::Order;
@@ -26,6 +27,8 @@ use std::process::ExitCode;
 const BUNDLES_A_PAIR: u64 = 10;
 /// One bundle whose pairs are worked out for so many others.
 const BUNDLES_A_FILLING: u64 = 2;
+/// One call of the weaver's gate for so many bundles.
+const BUNDLES_A_GATE: u64 = 6;
 /// One bundle judged under lock orders for so many others: it gets several
 /// lists of levels.
 const BUNDLES_AN_ORDER: u64 = 10;
@@ -87,6 +90,7 @@ fn parts(bundles: u64, schedules: u64) -> Result<Vec<Share>, Error> {
         share("verdicts", verdicts, bundles, 1),
         share("order", Order::default(), bundles, BUNDLES_A_PAIR),
         share("pairs", fillings, bundles, BUNDLES_A_FILLING),
+        share("gate", Gates::default(), bundles, BUNDLES_A_GATE),
         share("orders", Orders::default(), bundles, BUNDLES_AN_ORDER),
         share(
             "progress",

@@ -13,9 +13,12 @@
 //! something else. For a slip of the call that runs a list: a bundle and a list
 //! that come to something else. For a slip of the call that works pairs out: a
 //! bundle that it answers otherwise or in which it writes something else. For a
-//! slip of the reader of usages: a text that it answers otherwise. For a slip of
-//! taking methods: an attribute of which it says or writes something else.
+//! slip of the weaver's gate: a call that it answers otherwise or for which it
+//! writes something else. For a slip of the reader of usages: a text that it
+//! answers otherwise. For a slip of taking methods: an attribute of which it says
+//! or writes something else.
 
+use comparison::gates::blank;
 use comparison::lists;
 use comparison::orders::{inputs, Input};
 use comparison::progress::{next_answers, stands_still};
@@ -26,8 +29,10 @@ use generator::pairs::unpaired;
 use generator::rng::Rng;
 use generator::schedule::{any_state, Scheduler};
 use generator::texts::text;
+use generator::weaves::weave;
 use reference::bundle::Bundle;
 use reference::fill::fill;
+use reference::gate::{gate, Gated};
 use reference::history::History;
 use reference::machine::{answer, fresh, held_in, step_in};
 use reference::met::met_in;
@@ -61,6 +66,7 @@ fn main() -> ExitCode {
     let order = Slip::ORDER.map(|slip| (slip, (0..BUNDLES).find_map(|s| misordered(slip, s))));
     let lists = Slip::LISTS.map(|slip| (slip, (0..BUNDLES).find_map(|s| misrun(slip, s))));
     let pairs = Slip::PAIRS.map(|slip| (slip, (0..BUNDLES).find_map(|s| misfilled(slip, s))));
+    let gate = Slip::GATE.map(|slip| (slip, (0..BUNDLES).find_map(|s| misgated(slip, s))));
     let named = |(slip, found)| (format!("{slip:?}"), found);
     let reader = SLIPS.map(|(name, slipped)| {
         let found = (0..TEXTS).find_map(|seed| misread(slipped, seed));
@@ -73,7 +79,7 @@ fn main() -> ExitCode {
     let mut all_found = true;
     let all = verifier.into_iter().chain(machine).chain(words);
     let all = all.chain(histories).chain(standstill).chain(order);
-    let all = all.chain(lists).chain(pairs).map(named);
+    let all = all.chain(lists).chain(pairs).chain(gate).map(named);
     for (slip, found) in all.chain(reader).chain(taker) {
         all_found &= found.is_some();
         println!("{slip}: {}", found.unwrap_or("not found".to_string()));
@@ -269,6 +275,21 @@ fn misfilled(slip: Slip, seed: u64) -> Option<String> {
     };
     let told = format!("seed {seed} \"{other}\" for \"{truth}\", {bytes}");
     (other != truth || slipped != true_bytes).then_some(told)
+}
+
+/// A call that is answered otherwise, or for which something else is written.
+fn misgated(slip: Slip, seed: u64) -> Option<String> {
+    let weave = weave(seed);
+    let (mut slipped, mut out) = (blank(weave.room), blank(weave.room));
+    let other = slip.gate(&weave.parts.lent(), &mut slipped);
+    let truth = gate(&weave.parts.lent(), &mut out);
+    let told = |gated: Gated| format!("\"{}, length {}\"", gated.verdict, gated.length);
+    let bytes = match slipped.iter().zip(&out).position(|(a, b)| a != b) {
+        Some(at) => format!("byte {at} is {} for {}", slipped[at], out[at]),
+        None => "the same bytes".to_string(),
+    };
+    let told = format!("seed {seed} {} for {}, {bytes}", told(other), told(truth));
+    (other != truth || slipped != out).then_some(told)
 }
 
 /// A text of which the slipped reader says something else.
