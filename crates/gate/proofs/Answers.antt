@@ -5,7 +5,7 @@ use mathlib.Core.Bool.{Bool, true, false, not}
 use mathlib.Core.Logic.{_≢_}
 use Prim.Native.Nat.{ℕ, _+_, _≤_, _<_}
 use native.Mathlib.Omega.{arith}
-use lib.Dec.{leb, ltb, eqb}
+use lib.Dec.{leb, ltb}
 use lib.ListN.{length, take, drop}
 use lib.Seq.{take-at, length-take-le}
 use borrow.Author.Tests.{le-leb, lt-ltb, leb-true, leb-false, ltb-true, ne-eqb, eq-eqb}
@@ -13,7 +13,7 @@ use Rattle.ground.specs.Chain.{refuse}
 use Rattle.ground.proofs.Bools.{never, passed, failed}
 use Rattle.ground.proofs.Chain.{tested}
 use Rattle.structure.specs.declared.Verdict.{Verdict}
-use Rattle.structure.specs.Verdicts.{verdict, isBad}
+use Rattle.structure.specs.Verdicts.{verdict}
 use Rattle.pairs.specs.Answer.{Answer}
 use Rattle.pairs.proofs.Works.{one-answer}
 use Rattle.laying.specs.declared.Layout.{Layout}
@@ -24,7 +24,7 @@ use Rattle.laying.specs.Laying.{over, putIn, measured, layoutOf, laidIn}
 use Rattle.laying.specs.Loops.{Measured}
 use Rattle.laying.proofs.Lengths.{laid-long}
 use Rattle.laying.proofs.Lengths as lengths
-use Rattle.gate.specs.Gate.{refusalOf, Gate, unlaid, refused, short, written, packed, Gives, OneGate, OneNumber}
+use Rattle.gate.specs.Gate.{refusalOf, unlaid, refused, short, written, packed, Gives, OneGate, OneNumber}
 use Rattle.gate.specs.Steps.{Handed}
 use Rattle.gate.specs.Steps as steps
 

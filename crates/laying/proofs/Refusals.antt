@@ -1,6 +1,6 @@
 -- What `lay` gives, refusal by refusal.
 use mathlib.Core.List.{List}
-use mathlib.Core.Path.{_≡_, refl}
+use mathlib.Core.Path.{_≡_}
 use mathlib.Core.Bool.{true, false}
 use Prim.Native.Nat.{ℕ, _≤_, _<_}
 use lib.ListN.{length}
@@ -10,7 +10,7 @@ use Rattle.laying.specs.declared.Layout.{Layout}
 use Rattle.laying.specs.Given.{Given}
 use Rattle.laying.specs.Lengths.{whole}
 use Rattle.laying.specs.Laid.{laid}
-use Rattle.laying.specs.Laying.{over, measured, layout, layoutOf, laidIn}
+use Rattle.laying.specs.Laying.{measured, layout, layoutOf, laidIn}
 use Rattle.laying.specs.Loops.{Lays}
 
 module _ (g : Given) (out : List ℕ) (r : Layout) (w : ℕ) where

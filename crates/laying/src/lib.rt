@@ -8,7 +8,7 @@ ghost use Rattle.ground.specs.Lists.{each};
 ghost use Rattle.laying.specs.Given.{given, numbersAt};
 ghost use Rattle.laying.specs.Lengths.{kindBytes, lengthsOk, recordsBefore, whole};
 ghost use Rattle.laying.specs.Laid.{word, entryLaid, entriesLaid, rowLaid, recordLaid, recordOf, headLaid, trailerLaid, laid};
-ghost use Rattle.laying.specs.Laying.{over, putIn, layoutOf, laidIn};
+ghost use Rattle.laying.specs.Laying.{putIn, layoutOf, laidIn};
 ghost use Rattle.laying.specs.Loops.{Lays, Room, sizesOf, more, Under, Near, Measured, Within};
 use bundle::Class;
 

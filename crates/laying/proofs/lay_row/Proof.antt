@@ -2,8 +2,7 @@ use Prim.Native.Nat.{_+_, _*_, _≤_}
 use native.Mathlib.Omega.{arith}
 use lib.ListN.{length-append}
 use Rattle.ground.proofs.Bytes.{mul-under}
-use Rattle.ground.specs.Bytes.{at}
-use Rattle.laying.specs.Laid.{entriesLaid, rowLaid}
+use Rattle.laying.specs.Laid.{rowLaid}
 use Rattle.laying.proofs.Over.{lays-between}
 use borrow.Author.Needs.{needs}
 use Rattle.laying.proofs.lay_row.Statement.{statement}

@@ -1,4 +1,3 @@
-use native.Mathlib.Omega.{arith}
 use borrow.Author.Needs.{needs}
 use Rattle.laying.proofs.more.Statement.{statement}
 use Rattle.laying.proofs.more.Tie as tie
