@@ -55,7 +55,7 @@ fn every_example_comes_out_as_it_stands() {
         assert!(shows(shown, printed.trim()), "{words:?}\n{printed}");
     }
     for command in [
-        "check", "show", "explain", "trace", "fill", "run", "order", "usage",
+        "check", "show", "explain", "fill", "trace", "run", "order", "methods", "take", "usage",
     ] {
         assert!(examples.iter().any(|(words, _)| words.starts_with(command)));
     }
