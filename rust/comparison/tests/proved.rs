@@ -299,19 +299,22 @@ fn slipped_pairs_differ_from_the_proved_ones() {
     assert!(differing.iter().all(|&(_, n)| n >= 10), "{differing:?}");
 }
 
+/// Whether a call of the gate is answered otherwise, or something else is written.
+fn gates_otherwise(slip: Slip, seed: u64) -> bool {
+    let weave = weave(seed);
+    let (mut slipped, mut out) = (blank(weave.room), blank(weave.room));
+    let told = slip.gate(&weave.parts.lent(), &mut slipped);
+    told != proved::gate(&weave.parts.lent(), &mut out) || slipped != out
+}
+
+/// On the calls that the check compares; some take many to be seen.
 #[test]
 fn a_slipped_gate_differs_from_the_proved_one() {
-    let mut differing = Slip::GATE.map(|slip| (slip, 0));
-    for weave in (0..3_000).map(weave) {
-        let (parts, mut out) = (weave.parts.lent(), blank(weave.room));
-        let proved = proved::gate(&parts, &mut out);
-        for (slip, count) in &mut differing {
-            let mut slipped = blank(weave.room);
-            let told = slip.gate(&parts, &mut slipped);
-            *count += usize::from(told != proved || slipped != out);
-        }
+    for slip in Slip::GATE {
+        let differing = (0..10_000).filter(|&seed| gates_otherwise(slip, seed));
+        let differing = differing.take(10).count();
+        assert_eq!(differing, 10, "{slip:?}");
     }
-    assert!(differing.iter().all(|&(_, n)| n >= 10), "{differing:?}");
 }
 
 /// Whether a step of a run meets something else.
