@@ -2,11 +2,11 @@
 use mathlib.Core.List.{List, [], _∷_}
 use mathlib.Core.Path.{_≡_, refl}
 use mathlib.Core.Logic.{inl, inr}
-use mathlib.Core.Bool.{Bool, true, false}
+use mathlib.Core.Bool.{Bool, true, false, _||_}
 use Prim.Native.Nat.{ℕ, _+_, _<_, _≤_}
 use native.Mathlib.Omega.{arith}
-use lib.Dec.{leb}
-use borrow.Author.Tests.{le-leb, eq-eqb}
+use lib.Dec.{leb, eqb}
+use borrow.Author.Tests.{le-leb, eq-eqb, eqb-true}
 use Rattle.ground.specs.Chain.{refuse}
 use Rattle.ground.specs.Lists.{In}
 use Rattle.ground.proofs.Bools.{never, and-both, or-true}
@@ -28,59 +28,36 @@ use Rattle.laying.specs.Loops.{Measured}
 use Rattle.laying.proofs.Lengths.{sum-part, records-part}
 use Rattle.gate.specs.Gate.{refusalOf, unlaid, refused, short, written}
 use Rattle.gate.proofs.Answers.{all-measured}
-use Rattle.woven.specs.Woven.{placed, Few}
+use Rattle.woven.specs.Woven.{placed, outcomes, Few}
 use Rattle.woven.proofs.Standing.{classes-are, directory-is, length-is, mark-first, mark-last, class-is}
 use Rattle.woven.proofs.Woven as woven
 
+-- a test, so that a number's place in the list does not matter
+isIn : ℕ → List ℕ → Bool
+isIn n [] = false
+isIn n (m ∷ l) = eqb n m || isIn n l
+
+found : (n : ℕ) (l : List ℕ) → isIn n l ≡ true → In n l
+unfolding In isIn
+found n [] e = never e refl
+found n (m ∷ l) e = go (eqb n m) refl (λ k. found n l k)
+  where
+    go : (a : Bool) → eqb n m ≡ a → (isIn n l ≡ true → In n l) → In n (m ∷ l)
+    go true q f = inl (eqb-true n m q)
+    go false q f = inr (f (rw q at e))
+
 abbrev Among : ℕ → Type 0
-Among n = In n (0 ∷ 1 ∷ 3 ∷ 4 ∷ 6 ∷ 7 ∷ 8 ∷ 22 ∷ 24 ∷ 27 ∷ [])
+Among n = In n outcomes
 
-is-0 : Among 0
-unfolding In
-is-0 = inl refl
-
-is-1 : Among 1
-unfolding In
-is-1 = inr (inl refl)
-
-is-3 : Among 3
-unfolding In
-is-3 = inr (inr (inl refl))
-
-is-4 : Among 4
-unfolding In
-is-4 = inr (inr (inr (inl refl)))
-
-is-6 : Among 6
-unfolding In
-is-6 = inr (inr (inr (inr (inl refl))))
-
-is-7 : Among 7
-unfolding In
-is-7 = inr (inr (inr (inr (inr (inl refl)))))
-
-is-8 : Among 8
-unfolding In
-is-8 = inr (inr (inr (inr (inr (inr (inl refl))))))
-
-is-22 : Among 22
-unfolding In
-is-22 = inr (inr (inr (inr (inr (inr (inr (inl refl)))))))
-
-is-24 : Among 24
-unfolding In
-is-24 = inr (inr (inr (inr (inr (inr (inr (inr (inl refl))))))))
-
-is-27 : Among 27
-unfolding In
-is-27 = inr (inr (inr (inr (inr (inr (inr (inr (inr (inl refl)))))))))
+among : (n : ℕ) → isIn n outcomes ≡ true → Among n
+among n e = found n outcomes e
 
 early : (a b d : Bool) → Among (refuse a 27 (refuse b 1 (refuse d 3 0)))
-unfolding refuse
-early false b d = is-27
-early true false d = is-1
-early true true false = is-3
-early true true true = is-0
+unfolding refuse isIn
+early false b d = among 27 refl
+early true false d = among 1 refl
+early true true false = among 3 refl
+early true true true = among 0 refl
 
 module _ (g : Given) (z : refusalOf g ≡ 0) where
   m : Measured (g .classes) (g .directory) (g .descriptors) (g .instructions) (g .kinds) (g .depths)
@@ -136,29 +113,31 @@ module _ (g : Given) (z : refusalOf g ≡ 0) where
   all-apart = all-intro (classApart b) (classes b) (λ c l. class-apart c (rw (classes-are m (g .exception)) at l))
 
   place : (q : Place) → shapeHolds b q ≡ false → ShapeWithin b q → Among (drawn b q .number)
-  place (structural whole) h w = is-1
+  unfolding isIn
+  place (structural whole) h w = among 1 refl
   place (structural trailer) h w = never trailer-ok h
-  place (structural directory) h w = is-3
-  place (structural (limits c)) h w = is-4
+  place (structural directory) h w = among 3 refl
+  place (structural (limits c)) h w = among 4 refl
   place (structural (extent c)) h w = never (fits c (rw (classes-are m (g .exception)) at w)) h
-  place (structural (descriptors c)) h w = is-6
-  place (structural (instruction c a)) h w = is-7
-  place (form c a) h w = is-8
+  place (structural (descriptors c)) h w = among 6 refl
+  place (structural (instruction c a)) h w = among 7 refl
+  place (form c a) h w = among 8 refl
   place (first c) h w = absurd w
   place (rule c a) h w = absurd w
 
   answer : (v : Verdict) (x : List ℕ) → Answer b v x → Among (v .number)
+  unfolding isIn
   answer _ _ (malformed p) =
       let n = shape-judges b .first p in
       rw (n .is) (place (n .place) (n .first .broken) (shape-judges b .within (n .place) (first-in (shapeHolds b) (shapePlaces b) (n .place) (n .first))))
   answer _ _ (shared p q) = never all-apart q
-  answer _ _ (none r f) = is-22
-  answer _ _ (filled r f) = is-0
+  answer _ _ (none r f) = among 22 refl
+  answer _ _ (filled r f) = among 0 refl
 
 -- THEOREM
 pub few : Few
-unfolding refusalOf
+unfolding refusalOf isIn
 few g out _ _ _ (unlaid p) = early _ _ _
 few g out _ _ _ (refused {v} {x} e a i) = answer g e v x a
-few g out _ _ _ (short e a i k) = is-24
+few g out _ _ _ (short e a i k) = among 24 refl
 few g out _ _ _ (written {v} {x} e a i k) = answer g e v x a

@@ -10,9 +10,8 @@ use borrow.Author.Tests.{le-leb}
 use Rattle.ground.specs.Bytes.{at}
 use Rattle.ground.specs.Chain.{refuse}
 use Rattle.ground.proofs.Bools.{never}
-use Rattle.instructions.specs.Table.{decoded}
 use Rattle.bundle.specs.declared.Class.{Class}
-use Rattle.bundle.specs.Container.{classes, classAt, width, descriptorCount, size, partOf, instructionPlace, codeFrom, codeAt, instructionAt}
+use Rattle.bundle.specs.Container.{classes, classAt, width, descriptorCount, size, partOf, instructionPlace, codeFrom, codeAt}
 use Rattle.bundle.specs.Program.{programOf, methodAt, methodOf}
 use Rattle.structure.specs.declared.Verdict.{Verdict}
 use Rattle.structure.specs.Verdicts.{verdict, isBad}
@@ -166,13 +165,13 @@ module _ (g : Given) (z : refusalOf g ≡ 0) where
       same = class-same b R x A c lc
 
       of-class : OfClass g x c
-      unfolding programOf methodAt methodOf instructionAt placeOf depthOf placed
+      unfolding programOf methodAt methodOf placeOf depthOf placed
       of-class =
           record {
             numbers = same ∙ laid-class;
             descriptor = λ i h. rw same (code-same b R x A c lc i (rw laid-class (omega arith)) ∙ rw laid-class (descriptor-laid g m c l i h));
             instruction = λ a low high.
-                rw same (ap decoded (instruction-same b R x A c lc a low (rw laid-class high) ∙ rw laid-class (instruction-laid g m c l a low high)));
+                rw same (instruction-same b R x A c lc a low (rw laid-class high) ∙ rw laid-class (instruction-laid g m c l a low high));
             kind = λ a s low high h.
                 rw same (kind-same b R x A c lc a low (rw laid-class high) s (rw laid-class h) ∙ kind-laid g m c l laid-class a low high s h);
             kind-class = λ a s low high h.

@@ -6,9 +6,8 @@ use Prim.Native.Nat.{ℕ, _+_, _*_, _-_, _≤_, _<_}
 use lib.ListN.{length, take, drop}
 use Rattle.ground.specs.Bytes.{at}
 use Rattle.ground.specs.Lists.{In}
-use Rattle.instructions.specs.Table.{decoded}
 use Rattle.bundle.specs.declared.Class.{Class}
-use Rattle.bundle.specs.Container.{descriptorCount, classAt, codeFrom}
+use Rattle.bundle.specs.Container.{descriptorCount, classAt, partOf, codeFrom, codeAt}
 use Rattle.bundle.specs.Program.{programOf}
 use Rattle.structure.specs.declared.Verdict.{Verdict}
 use Rattle.structure.specs.Verdicts.{verdict}
@@ -35,13 +34,13 @@ placed d c =
 unfoldable pub kindPlace : Class → ℕ → ℕ → ℕ
 kindPlace k l s = 2 * ((l - 1) * entries k + s)
 
--- of x, what class c is: its numbers, its descriptors, its instructions, the kinds and depths of its rows
+-- of x, what class c is: its numbers, its descriptors, the bytes of its instructions, the kinds and depths of its rows
 pub record OfClass (g : Given) (x : List ℕ) (c : ℕ) : Type 0 where
   pub numbers : classAt x c ≡ placed (g .directory) c
   pub descriptor : (i : ℕ) → i < descriptorCount (numbersAt (g .directory) c)
       → programOf x .method c .descriptor i ≡ at (descriptorsOf (g .directory) (g .descriptors) c) i
   pub instruction : (l : ℕ) → 1 ≤ l → l ≤ numbersAt (g .directory) c .code
-      → programOf x .method c .instruction l ≡ decoded (codeFrom (instructionsOf (g .directory) (g .instructions) c) (4 * (l - 1)))
+      → codeAt (classAt x c) (partOf x (classAt x c)) l ≡ codeFrom (instructionsOf (g .directory) (g .instructions) c) (4 * (l - 1))
   pub kind : (l s : ℕ) → 1 ≤ l → l ≤ numbersAt (g .directory) c .code → s < entries (numbersAt (g .directory) c)
       → at x (placeOf x c l s) ≡ at (kindsOf (g .directory) (g .kinds) c) (kindPlace (numbersAt (g .directory) c) l s)
   pub kind-class : (l s : ℕ) → 1 ≤ l → l ≤ numbersAt (g .directory) c .code → s < entries (numbersAt (g .directory) c)
@@ -70,6 +69,10 @@ Writes = (g : Given) (out : List ℕ) (v : Verdict) (n : ℕ) (out′ : List ℕ
 abbrev pub Refuses : Type 0
 Refuses = (g : Given) (out : List ℕ) (v : Verdict) (n : ℕ) (out′ : List ℕ) → Gate g out v n out′ → v .number ≢ 0 → (n ≡ 0) × (out′ ≡ out)
 
--- 2, 5, 9, 10 and 23 never come out: `few`
+-- the numbers that come out: 2, 5, 9, 10 and 23 never do
+abbrev pub outcomes : List ℕ
+outcomes = 0 ∷ 1 ∷ 3 ∷ 4 ∷ 6 ∷ 7 ∷ 8 ∷ 22 ∷ 24 ∷ 27 ∷ []
+
+-- no other does: `few`
 abbrev pub Few : Type 0
-Few = (g : Given) (out : List ℕ) (v : Verdict) (n : ℕ) (out′ : List ℕ) → Gate g out v n out′ → In (v .number) (0 ∷ 1 ∷ 3 ∷ 4 ∷ 6 ∷ 7 ∷ 8 ∷ 22 ∷ 24 ∷ 27 ∷ [])
+Few = (g : Given) (out : List ℕ) (v : Verdict) (n : ℕ) (out′ : List ℕ) → Gate g out v n out′ → In (v .number) outcomes
