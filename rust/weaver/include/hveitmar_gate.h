@@ -25,7 +25,8 @@ extern "C" {
      depths        a byte for each row: how many stack places are in use.
 
    It takes any bytes and numbers, always comes to an end and keeps nothing. Nothing is written but the
-   bundle; with a refusal, nothing is. out must not overlap the five slices. */
+   bundle; with a refusal, nothing is. out must not overlap the five slices. A call takes some 140,000
+   bytes of stack. */
 uint64_t hveitmar_gate(uint32_t classes, uint32_t exception, const uint8_t *directory,
                        size_t directory_length, const uint8_t *descriptors, size_t descriptors_length,
                        const uint8_t *instructions, size_t instructions_length, const uint8_t *kinds,
