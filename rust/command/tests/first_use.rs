@@ -14,12 +14,13 @@ const UTILITIES: [&str; 14] = [
     "setsid", "sleep", "tail",
 ];
 
-/// Proves two crates in half a second each, and writes the program.
+/// Proves two crates in two seconds, and writes the program: long enough for the
+/// first to be told of on a machine that is busy.
 const RT: &str = r#"
 echo "rt $*" >>runs
 mkdir -p target/bin target/staticlib
 echo 'rt: ground proved (1 s)'
-sleep 0.5
+sleep 1.5
 echo 'rt: hveitmar proved (1 s)'
 sleep 0.5
 printf '#!/bin/sh\necho accepted classes 1\n' >target/bin/hveitmar
