@@ -1,4 +1,6 @@
 // Answer 18 of documents 01 and 02: whether a state is one of a bundle.
+#![tactic(auto)]
+
 ghost use Rattle.std.specs.Prelude.{◌≡◌};
 ghost use Rattle.bundle.specs.Program.{program_of};
 ghost use Rattle.belongs.specs.Belongs.{places_refer, placed_ok, live_ok, thread_ok, first_ok, objects_ok, fields_ok, count_ok, thread_held_ok, bits_apart, state_ok};

@@ -1,4 +1,6 @@
 // The bundle as it is read: the directory, the records, and one instruction. Every read is total.
+#![tactic(auto)]
+
 ghost use Rattle.std.specs.Prelude.{◌≡◌, ◌+◌, ◌*◌, ◌<◌, ◌≤◌, length};
 ghost use Rattle.ground.specs.Bytes.{at, Begins};
 ghost use Rattle.bundle.specs.Container.{directory_at, classes, exception, head_at, class_at, width, size, record_fits, part_of, part_place, code_from, no_code, instruction_place, code_at, instruction_at, field_at};

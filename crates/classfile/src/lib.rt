@@ -1,4 +1,6 @@
 // Document 02, Q-9: a method's instructions, taken from the Code attribute of a class file.
+#![tactic(auto)]
+
 mod attribute;
 mod rows;
 

@@ -1,5 +1,7 @@
 // One entry of a row, as the four-byte number that it is in a bundle of n classes; nothing is taken apart further than a question needs.
 // Ends are kept as stored, with 64 added.
+#![tactic(auto)]
+
 ghost use Rattle.std.specs.Prelude.{◌≡◌, true, ◌+◌, ◌-◌, ◌≤◌, ◌/◌, ◌%◌, leb};
 ghost use Rattle.ground.specs.Chain.{refuse};
 ghost use Rattle.entries.specs.Entries.{Int, Ref, Nullable, pair_ok, nullable_ok, dip_of, end_of, kind_of, class_of, is_int, is_top, is_reference, is_nullable, is_blank, is_type, is_of, may_be_of, no_end, argument_entry, matches, field_entry, matches_field};

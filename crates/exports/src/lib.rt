@@ -1,4 +1,6 @@
 // C calls on byte slices, for tests, benchmarks and Rust callers.
+#![tactic(auto)]
+
 mod filling;
 mod methods;
 mod runs;

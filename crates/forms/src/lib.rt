@@ -1,4 +1,6 @@
 // Verdict 8 of document 01, a malformed entry or depth, and row 1.
+#![tactic(auto)]
+
 ghost use Rattle.std.specs.Prelude.{◌≡◌, ◌&&◌, true, ◌≤◌};
 ghost use Rattle.ground.specs.Bounded.{all_below};
 ghost use Rattle.ground.specs.Bytes.{at};

@@ -1,4 +1,6 @@
 // Document 02, Q-12: the weaver's gate, as a C call: what is given is laid out as a bundle, its pairs are filled, and what is accepted is written.
+#![tactic(auto)]
+
 ghost use Rattle.std.specs.Prelude.{◌≡◌, ◌≤◌, length, take};
 ghost use Rattle.pairs.specs.Answer.{Answer};
 ghost use Rattle.laying.specs.Given.{given};

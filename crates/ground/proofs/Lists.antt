@@ -19,6 +19,7 @@ module _ {A : Type 0} where
 
   pub in_left : (x : A) (l m : List A) → In x l → In x (l ++ m)
   unfolding In
+  in_left x [] m x'' = elim x'' [ ]
   in_left x (y ∷ l) m (inl e) = inl e
   in_left x (y ∷ l) m (inr h) = inr (in_left x l m h)
 
@@ -29,6 +30,7 @@ module _ {A : Type 0} where
 
   pub in-each : (x : A) (n : ℕ) (f : ℕ → List A) → In x (each n f) → (i : ℕ) × (i < n) × In x (f i)
   unfolding In each
+  in-each x zero f h = elim h [ ]
   in-each x (suc n) f h = ⊎_elim (λ k. let r = in-each x n f k in (r.0, omega (arith, r.1), r.2)) (λ k. (n, omega arith, k)) (in-append x (each n f) (f n) h)
 
   pub each_in : (x : A) (n : ℕ) (f : ℕ → List A) (i : ℕ) → i < n → In x (f i) → In x (each n f)
@@ -47,11 +49,13 @@ module _ {A : Type 0} where
 
   pub in_map : {P : Type 0} (f : P → A) (x : A) (l : List P) → In x (map f l) → (p : P) × (x ≡ f p) × In p l
   unfolding In
+  in_map {P = P} f x [] x'' = elim x'' [ ]
   in_map f x (p ∷ l) (inl e) = (p, e, inl refl)
   in_map f x (p ∷ l) (inr h) = let r = in_map f x l h in (r.0, r.1, inr r.2)
 
   pub map-in : {P : Type 0} (f : P → A) (p : P) (l : List P) → In p l → In (f p) (map f l)
   unfolding In
+  map-in {P = P} f p [] x' = elim x' [ ]
   map-in f p (q ∷ l) (inl e) = inl (ap f e)
   map-in f p (q ∷ l) (inr h) = inr (map-in f p l h)
 
@@ -62,6 +66,7 @@ module _ {A : Type 0} (holds : A → Bool) where
 
   pub all_in : (l : List A) → All holds l → (x : A) → In x l → holds x ≡ true
   unfolding All In
+  all_in [] a x x4 = elim x4 [ ]
   all_in (y ∷ l) a x (inl e) = rw e a.0
   all_in (y ∷ l) a x (inr h) = all_in l a.1 x h
 

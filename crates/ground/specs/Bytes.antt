@@ -20,4 +20,4 @@ part s a e = take (e - a) (drop a s)
 
 -- r is the part of the lent bytes b that begins at their place p: no copy, those bytes themselves
 abbrev pub Begins : Bor (List ℕ) → Bor (List ℕ) → ℕ → Type 0
-Begins r b p = (r.ptr.0 ≡ b.ptr.0) × (r.ptr.1 ≡ b.ptr.1 + p)
+Begins r b p = (r.ref_ptr.0 ≡ b.ref_ptr.0) × (r.ref_ptr.1 ≡ b.ref_ptr.1 + p)

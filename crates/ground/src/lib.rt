@@ -1,4 +1,6 @@
 // Total reads of bytes and big-endian numbers: past the end every byte is 0.
+#![tactic(auto)]
+
 ghost use Rattle.std.specs.Prelude.{◌≡◌, ◌+◌, ◌*◌, ◌-◌, length};
 ghost use Rattle.ground.specs.Bytes.{at, be16, quad};
 
@@ -31,6 +33,7 @@ pub fn halves(hi: u16, lo: u16) -> u32
 }
 
 // The four-byte number at i, 0 where it is not all there.
+#[tactic(auto, unfolding(crate::specs::Bytes::quad))]
 pub fn quad(s: &[u8], i: usize) -> u32
     ensures { result ≡ quad s.now i }
 {

@@ -1,4 +1,6 @@
 // A 32-bit word that keeps a set of numbers below 32, one bit each, set and cleared by shift and mask.
+#![tactic(auto)]
+
 ghost use Rattle.std.specs.Prelude.{◌≡◌};
 ghost use Rattle.held.specs.Word.{set_bit, clear_bit, marked, bits_set, apart};
 

@@ -1,4 +1,6 @@
 // What a step meets: the instruction and the object that an event of the history names.
+#![tactic(auto)]
+
 ghost use Rattle.std.specs.Prelude.{◌≡◌};
 ghost use Rattle.history.specs.Meeting.{object_in, object_met, met_of};
 

@@ -1,4 +1,6 @@
 // The question of document 02, Q-4: how many objects a thread holds, answered from its held word.
+#![tactic(auto)]
+
 ghost use Rattle.std.specs.Prelude.{◌≡◌};
 ghost use Rattle.holding.specs.Question.{refused, held_of};
 

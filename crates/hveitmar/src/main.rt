@@ -1,4 +1,6 @@
 // The verdict on a bundle that standard input holds, as one line on standard output.
+#![tactic(auto)]
+
 use libc::{STDIN_FILENO, STDOUT_FILENO};
 use structure::Verdict;
 

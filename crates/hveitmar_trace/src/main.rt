@@ -1,5 +1,7 @@
 // Runs a schedule of steps on a bundle, from a fresh machine or from a given state, and prints each answer and the
 // last state, so that a run can be held against another machine's.
+#![tactic(auto)]
+
 mod decode;
 mod print;
 

@@ -1,4 +1,6 @@
 // What a file descriptor gives, up to its end. Unlike io::read_full it tells a read that failed from the end.
+#![tactic(auto)]
+
 ghost use Rattle.std.specs.Prelude.{◌+◌, ◌≤◌, ◌≡◌, length};
 ghost use Rattle.io.specs.Counts.{IsPrefixLen};
 

@@ -1,4 +1,6 @@
 // The instruction table of document 01: an instruction from its bytes, and whether it keeps to the table.
+#![tactic(auto)]
+
 ghost use Rattle.std.specs.Prelude.{◌≡◌, ℕ, ◌≤◌, ◌<◌, ◌/◌};
 ghost use Rattle.instructions.specs.Table.{line_of, decoded, table_ok, last_ok, instruction_ok};
 ghost use Rattle.instructions.specs.Limits.{operand_limit, address_reach};

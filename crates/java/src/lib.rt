@@ -1,4 +1,6 @@
 // Document 02, Q-9: one instruction of Java's, as it stands in a method's code.
+#![tactic(auto)]
+
 ghost use Rattle.std.specs.Prelude.{◌≡◌, ◌<◌};
 ghost use Rattle.java.specs.Opcodes.{aload_of, iinc_of, java_of, width_of, lock_bytes};
 ghost use Rattle.java.specs.Instructions.{java_at, size_at, gives_of};

@@ -1,4 +1,6 @@
 // Document 02, Q-12: what a weaver gives, laid out as a bundle: records in class order, directory, trailer.
+#![tactic(auto)]
+
 ghost use Rattle.std.specs.Prelude.{[], ◌∷◌, ◌≡◌, ◌+◌, ◌*◌, ◌<◌, ◌≤◌, leb, length};
 ghost use Rattle.ground.specs.Lists.{each};
 ghost use Rattle.laying.specs.Given.{given, numbers_at};

@@ -1,4 +1,6 @@
 // The machine of document 01: a fresh machine, and one step of one thread. Each call checks bundle and state for itself.
+#![tactic(auto)]
+
 ghost use Rattle.std.specs.Prelude.{◌≡◌, ◌<◌, true};
 ghost use Rattle.bundle.specs.Program.{program_of};
 ghost use Rattle.state.specs.State.{lowest_free};

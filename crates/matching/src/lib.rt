@@ -1,4 +1,6 @@
 // Two rows of one record held against each other, each given by where it begins: the comparisons along an edge, in their order; and may go.
+#![tactic(auto)]
+
 ghost use Rattle.std.specs.Prelude.{◌≡◌, true, ◌+◌, ◌-◌, ◌≤◌};
 ghost use Rattle.entries.specs.Entries.{Int, Ref, no_end, field_entry};
 ghost use Rattle.entries.specs.Fits.{compare, want, want_entered, want_exited};

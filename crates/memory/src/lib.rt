@@ -1,5 +1,7 @@
 // One thread as 36 words, which its moves change in place: sixteen variables, sixteen stack places from the bottom, and its class (32), address (33), depth (34)
 // and whether it is live (35). Places are taken modulo 16: a move tests nothing, and means what document 01 says where the thread has what the move takes.
+#![tactic(auto)]
+
 pub mod starts;
 pub mod words;
 

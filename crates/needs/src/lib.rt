@@ -1,4 +1,6 @@
 // What the rules ask of the pairs of a row, entry by entry: the least dip and the least end that the rows which follow allow. Row p is that of address l, q of l+1, h the target's or handler's; each is given by where it begins.
+#![tactic(auto)]
+
 ghost use Rattle.std.specs.Prelude.{◌≡◌, ◌-◌};
 ghost use Rattle.bundle.specs.Program.{program_of};
 ghost use Rattle.entries.specs.Fits.{want_entered, want_exited, want_both};

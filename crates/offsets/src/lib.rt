@@ -1,4 +1,6 @@
 // Document 02, Q-9: the code read from its first byte on: addresses, targets and handlers, and the offenders that refusals 31 to 34 name.
+#![tactic(auto)]
+
 mod places;
 mod strays;
 

@@ -1,4 +1,6 @@
 // The verifier under a lock order by class (document 02, Q-10): the verdict of `verify`, and 25 where a monitorenter breaks the order of the levels.
+#![tactic(auto)]
+
 ghost use Rattle.std.specs.Prelude.{◌≡◌, ◌<◌};
 ghost use Rattle.ground.specs.Lists.{each};
 ghost use Rattle.instructions.specs.Table.{decoded};

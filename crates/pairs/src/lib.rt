@@ -1,4 +1,6 @@
 // Document 02, Q-5: the pairs of a bundle worked out, the least that the verifier accepts.
+#![tactic(auto)]
+
 ghost use Rattle.std.specs.Prelude.{◌≡◌, ◌&&◌, ℕ, ◌+◌, ◌<◌, ◌≤◌, leb, ltb, eqb, length};
 ghost use Rattle.ground.specs.Bytes.{at};
 ghost use Rattle.bundle.specs.Container.{classes, part_of};

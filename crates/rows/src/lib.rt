@@ -1,4 +1,6 @@
 // A row as it stands in the bundle, read entry by entry from a record and numbers. Every read is total; a place is a u32, so that no sum wraps.
+#![tactic(auto)]
+
 ghost use Rattle.std.specs.Prelude.{◌≡◌, ◌+◌, ◌<◌, length};
 ghost use Rattle.ground.specs.Bytes.{quad};
 ghost use Rattle.entries.specs.Words.{entry_from};

@@ -1,4 +1,6 @@
 // The rules of document 01, instruction by instruction: what each asks, and its edges. Rows p (of address l), q (of l+1) and h (the target's or handler's) are given by where they begin.
+#![tactic(auto)]
+
 ghost use Rattle.std.specs.Prelude.{◌≡◌, ◌&&◌, true, cond, ◌+◌, eqb};
 ghost use Rattle.ground.specs.Bytes.{at};
 ghost use Rattle.ground.specs.Chain.{refuse};

@@ -1,5 +1,7 @@
 // Document 02, Q-7: a bundle is checked once, and a list of steps is run in place. What a step would check is what the verdict and the invariant of soundness give,
 // so no line here can answer 11 to 18.
+#![tactic(auto)]
+
 mod fields;
 mod locks;
 mod objects;

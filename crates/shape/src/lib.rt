@@ -1,4 +1,6 @@
 // Whether a bundle's pairs can be worked out at all: refusals 1 to 8, pair bytes aside, and 23, bytes in common.
+#![tactic(auto)]
+
 ghost use Rattle.std.specs.Prelude.{◌≡◌, ◌<◌};
 ghost use Rattle.ground.specs.Lists.{each};
 ghost use Rattle.bundle.specs.Container.{classes};

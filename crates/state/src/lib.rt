@@ -1,4 +1,6 @@
 // The machine's state: eight thread numbers, 32 objects, one count for each thread and each object, a held word for each thread, four field places for each object.
+#![tactic(auto)]
+
 ghost use Rattle.std.specs.Prelude.{◌≡◌};
 ghost use Rattle.state.specs.State.{thread_at, count_of, with_thread, field_of, with_field, with_object, empty_state, free_of, others_free, is_free, holds_nothing, lowest_free};
 

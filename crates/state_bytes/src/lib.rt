@@ -1,4 +1,6 @@
 // A state of the machine as bytes, in the format of hveitmar_trace: 2,537 bytes.
+#![tactic(auto)]
+
 ghost use Rattle.std.specs.Prelude.{◌≡◌, ◌<◌, ◌≤◌, replicate};
 ghost use Rattle.ground.specs.Bounded.{all_below, set_below};
 ghost use Rattle.values.specs.Values.{zero_slot};

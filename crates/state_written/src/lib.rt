@@ -1,4 +1,6 @@
 // A state of the machine written as bytes, in the format of hveitmar_trace: 2,537 bytes, the ones that state_bytes reads.
+#![tactic(auto)]
+
 mod places;
 
 ghost use Rattle.std.specs.Prelude.{◌≡◌, cond, ◌+◌, ◌≤◌};

@@ -1,4 +1,6 @@
 // Verdicts 1 to 7 of document 01 in their order, and the search for a class's record.
+#![tactic(auto)]
+
 ghost use Rattle.std.specs.Prelude.{◌≡◌, ◌<◌, ◌≤◌, ◌/◌};
 ghost use Rattle.structure.specs.Conditions.{length_ok, trailer_ok, directory_ok, main_ok, code_ok, limits_ok, descriptor_ok, descriptors_ok, address_ok};
 ghost use Rattle.structure.specs.Places.{shape_places, table_places};

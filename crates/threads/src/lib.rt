@@ -1,4 +1,6 @@
 // One thread of the machine: its variables and its stack.
+#![tactic(auto)]
+
 ghost use Rattle.std.specs.Prelude.{◌≡◌, ◌-◌, replicate};
 ghost use Rattle.ground.specs.Bounded.{set_below, fill_from};
 ghost use Rattle.values.specs.Values.{zero_slot};

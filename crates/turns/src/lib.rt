@@ -1,4 +1,6 @@
 // What one instruction does to the thread that runs it, or why it cannot. A turn is made without the state, which each function that takes it copies.
+#![tactic(auto)]
+
 mod ends;
 pub mod fields;
 mod locks;

@@ -1,5 +1,7 @@
 // Q-11: usages as the paper writes them, `0`, `L.U`, `^L.U`, `U&U`, `U*U` for its ⊗, and brackets.
 // No usage is kept: what is read is weighed on the way.
+#![tactic(auto)]
+
 ghost use Rattle.std.specs.Prelude.{◌≡◌, ◌+◌, ◌-◌, ◌≤◌, length, drop};
 ghost use Rattle.usages.specs.Usage.{either, both};
 ghost use Rattle.usage_text.specs.Signs.{star, ampersand};

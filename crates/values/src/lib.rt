@@ -1,4 +1,6 @@
 // A value of the machine, and what the instructions do with one.
+#![tactic(auto)]
+
 ghost use Rattle.std.specs.Prelude.{◌≡◌, not};
 ghost use Rattle.values.specs.Values.{inc_of, is_pos, zero_slot, ref_slot, null_slot, number_of, int_slot, bits_of, bits_of_slot, is_int, is_null, is_ref, object_of, inc_value, inc_slot, jumps, refers};
 

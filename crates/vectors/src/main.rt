@@ -1,5 +1,7 @@
 // Bundles and machine states with the answers that the documents give them, worked out by hand, against the answers of the code.
 // The cases are text on standard input; the text's head says how it is read.
+#![tactic(auto)]
+
 mod build;
 mod equal;
 mod fillings;

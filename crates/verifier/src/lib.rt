@@ -1,4 +1,6 @@
 // The verifier: document 01's verdict on every byte string, the first broken rule in the document's order.
+#![tactic(auto)]
+
 ghost use Rattle.std.specs.Prelude.{◌≡◌, ◌<◌};
 ghost use Rattle.bundle.specs.Program.{program_of};
 ghost use Rattle.bundle.specs.Container.{classes};
