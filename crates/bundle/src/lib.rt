@@ -8,7 +8,7 @@ ghost use Rattle.bundle.specs.Container.{directory_at, classes, exception, head_
 use instructions::{Addr, Code, Instruction};
 
 // What the directory says of one class.
-#[derive(Drop)]
+#[derive(Clone, Copy)]
 pub struct Class {
     pub offset: u16,
     pub args: u8,

@@ -8,7 +8,7 @@ ghost use Rattle.std.specs.Prelude.{◌≡◌, ◌<◌, length};
 ghost use Rattle.classfile.specs.Taking.{taken, judged, taken_of, out_of};
 
 // 0 and the number of instructions written, or a refusal (30 to 34) and its offset in the code.
-#[derive(Drop)]
+#[derive(Clone, Copy)]
 pub struct Taken {
     pub number: u8,
     pub offset: u32,

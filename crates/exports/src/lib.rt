@@ -17,7 +17,7 @@ use state::State;
 use structure::Verdict;
 
 // A machine on its way, and its answers so far, mixed into one number. The number comes first: behind the state it would leave a gap, and the state would be copied once more.
-#[derive(Drop)]
+#[derive(Clone, Copy)]
 struct Running {
     digest: u64,
     state: State,

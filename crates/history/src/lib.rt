@@ -9,14 +9,14 @@ use state::State;
 use threads::Thread;
 use values::{Slot, Value};
 
-#[derive(Drop)]
+#[derive(Clone, Copy)]
 pub enum Object {
     None,
     One(u8),
 }
 
 // The instruction as its four bytes; four zeros are none.
-#[derive(Drop)]
+#[derive(Clone, Copy)]
 pub struct Met {
     pub instruction: Code,
     pub object: Object,

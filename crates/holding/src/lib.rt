@@ -7,7 +7,7 @@ ghost use Rattle.holding.specs.Question.{refused, held_of};
 use state::State;
 
 // 0 with the number of objects, or 17, 18 or 5 with 0.
-#[derive(Drop)]
+#[derive(Clone, Copy)]
 pub struct Holding {
     pub answer: u8,
     pub number: u8,

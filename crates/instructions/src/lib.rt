@@ -6,22 +6,22 @@ ghost use Rattle.instructions.specs.Table.{line_of, decoded, table_ok, last_ok, 
 ghost use Rattle.instructions.specs.Limits.{operand_limit, address_reach};
 
 // An address of a method, from 1; as a handler, 0 is none.
-#[derive(Drop)]
+#[derive(Clone, Copy)]
 pub struct Addr(pub u16);
 
 // The number of a local variable, from 0.
-#[derive(Drop)]
+#[derive(Clone, Copy)]
 pub struct Var(pub u8);
 
 // An instruction as it stands in a record: four bytes.
-#[derive(Drop)]
+#[derive(Clone, Copy)]
 pub struct Code {
     pub opcode: u8,
     pub operand: u8,
     pub address: u16,
 }
 
-#[derive(Drop)]
+#[derive(Clone, Copy)]
 pub enum Instruction {
     Inc,
     Pop,

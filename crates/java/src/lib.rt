@@ -7,7 +7,7 @@ ghost use Rattle.java.specs.Instructions.{java_at, size_at, gives_of};
 ghost use Rattle.java.specs.Classes.{is_index, class_number, known};
 
 // An instruction that is taken; Enter and Exit are an aload with its lock instruction.
-#[derive(Drop)]
+#[derive(Clone, Copy)]
 pub enum Java {
     Nop,
     Pop,
@@ -31,7 +31,7 @@ pub enum Java {
 }
 
 // An instruction and the bytes that it takes.
-#[derive(Drop)]
+#[derive(Clone, Copy)]
 pub struct Read {
     pub java: Java,
     pub size: usize,

@@ -12,7 +12,7 @@ ghost use Rattle.laying.specs.Loops.{Lays, Room, sizes_of, more, Under, Near, Me
 use bundle::Class;
 
 // How many bytes of each slice some classes take, and of records.
-#[derive(Drop)]
+#[derive(Clone, Copy)]
 struct Sizes {
     descriptors: usize,
     instructions: usize,
@@ -22,7 +22,7 @@ struct Sizes {
 }
 
 // 0 and how long the bundle is, or a refusal.
-#[derive(Drop)]
+#[derive(Clone, Copy)]
 pub struct Layout {
     pub number: u8,
     pub length: usize,

@@ -7,7 +7,7 @@ use lib.Dec.{eqb}
 use borrow.Author.Tests.{eqb-true, eq-eqb}
 use Rattle.entries.specs.Entries.{Entry, class_of, is_reference, is_nullable}
 use Rattle.entries.specs.Fits.{Want, want, want_entered, want_both}
-use Rattle.entries.proofs.Types.{no-dip, no_end}
+use Rattle.entries.proofs.Types.{no-dip, no_end_lem}
 use Rattle.rows.specs.Rows.{Row}
 use Rattle.matching.specs.Matching.{under, popped, pushed, stored, wants, Wants, wants_at, wants_loaded, edge}
 use Rattle.rules.specs.Rules.{made, unnulled}
@@ -268,7 +268,7 @@ module _ (vars : ℕ) (x x' y y' : Row) (u : UnderRow vars x x') (v : UnderRow v
               let p : Has (fitting (y.variable w)) (x'.variable w) = meets-forced (want-lower (v.variable w lw)) k in
               let q : Has (fitting (y.stack 0)) (x'.variable w) = meets-forced (want-lower (v.stack 0 filled)) m in
               let d = no-dip (x'.variable w) n in
-              let e = no_end (x'.variable w) n in
+              let e = no_end_lem (x'.variable w) n in
               record { dip = omega (arith, p.dip, q.dip, d); end = omega (arith, p.end, q.end, e) }
 
           one : (t : Bool) → is_reference (x'.variable w) ≡ t → (i : ℕ) → i < vars → Meets (x'.variable i) ((loaded x' y' B' t).variable i) → Meets (x'.variable w) ((loaded x' y' B' t).stack 0)

@@ -12,7 +12,7 @@ use bundle::Class;
 use instructions::{Addr, Instruction};
 
 // A dip and an end, the end as stored, with 64 added.
-#[derive(Drop)]
+#[derive(Clone, Copy)]
 pub struct Pair {
     pub dip: u16,
     pub end: u16,

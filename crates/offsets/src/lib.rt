@@ -11,7 +11,7 @@ ghost use Rattle.offsets.specs.Targets.{target_of, first_stray, first_stray_entr
 ghost use Rattle.offsets.specs.Offenders.{first_unknown, first_past};
 
 // An offset at which an instruction begins, and the number of instructions written before it.
-#[derive(Drop)]
+#[derive(Clone, Copy)]
 struct Place {
     at: usize,
     count: usize,

@@ -40,11 +40,13 @@ base-in (rule c l) = inl refl
 
 extended-in : (q : Place) (p : verifier.Place) (l : List verifier.Place) → In q (with_order p) → In p l → In q (extended l)
 unfolding In extended
+extended-in q p [] h x'' = elim x'' [ ]
 extended-in q p (r ∷ l) h (inl e) = in_left q (with_order r) (extended l) (rw e at h)
 extended-in q p (r ∷ l) h (inr k) = in_right q (with_order r) (extended l) (extended-in q p l h k)
 
 in-extended : (q : Place) (l : List verifier.Place) → In q (extended l) → (p : verifier.Place) × In p l × In q (with_order p)
 unfolding In extended
+in-extended q [] h = elim h [ ]
 in-extended q (r ∷ l) h =
     ⊎_elim (λ k. (r, inl refl, k)) (λ k. let x = in-extended q l k in (x.0, inr x.1, x.2)) (in-append q (with_order r) (extended l) h)
 
@@ -58,6 +60,10 @@ module _ (b : List ℕ) where
   -- what a place of `verify` is extended to is within the bundle where it is
   with-within : (p : verifier.Place) (q : Place) → verifier.Within b p → In q (with_order p) → Within b q
   unfolding In
+  with-within (rule c l) q w (inr (inr x7)) = elim x7 [ ]
+  with-within (first c) q w (inr x5) = elim x5 [ ]
+  with-within (form c l) q w (inr x4) = elim x4 [ ]
+  with-within (structural p) q w (inr x3) = elim x3 [ ]
   with-within (structural p) q w (inl e) = rw e w
   with-within (form c l) q w (inl e) = rw e w
   with-within (first c) q w (inl e) = rw e w

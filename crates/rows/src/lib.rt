@@ -53,7 +53,7 @@ fn read_stack(r: &[u8], s: u32, vars: u8, j: u8) -> u32
 }
 
 // The part of the bundle, where a row begins in it, V and K.
-#[derive(Drop)]
+#[derive(Clone, Copy)]
 struct Row<'a> {
     part: &'a [u8],
     start: u32,

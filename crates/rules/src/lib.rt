@@ -16,7 +16,7 @@ use bundle::Class;
 use instructions::{Addr, Code};
 
 // Whether what a rule asks is there, and then the first comparison that isn't 0.
-#[derive(Drop)]
+#[derive(Clone, Copy)]
 pub struct Ruling {
     pub met: bool,
     pub short: u8,

@@ -18,7 +18,7 @@ use state::State;
 use structure::Verdict;
 
 // 0, or 19 where the bundle is refused; the verdict; the last state; how many steps answered 0, 1 or 2. The state comes first, with no gap before it.
-#[derive(Drop)]
+#[derive(Clone, Copy)]
 pub struct Ran {
     pub state: State,
     pub verdict: Verdict,

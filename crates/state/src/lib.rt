@@ -7,7 +7,7 @@ ghost use Rattle.state.specs.State.{thread_at, count_of, with_thread, field_of, 
 use threads::Thread;
 use values::Slot;
 
-#[derive(Drop)]
+#[derive(Clone, Copy)]
 pub struct State {
     pub threads: [Thread; 8],
     pub counts: [u16; 256],

@@ -41,6 +41,7 @@ module _ (b : List ℕ) where
 
   shape-within : (p : Place) (c : ℕ) → c < classes b → In p (shape_places c) → Within b p
   unfolding In
+  shape-within p c l (inr (inr (inr x))) = elim x [ ]
   shape-within p c l (inl e) = rw e l
   shape-within p c l (inr (inl e)) = rw e l
   shape-within p c l (inr (inr (inl e))) = rw e l

@@ -14,7 +14,7 @@ use bundle::Class;
 use instructions::{Addr, Code};
 
 // The document's number, class and address, and why a 9's rule fails; 0 is no verdict or, at the end, accepted with the class count.
-#[derive(Drop)]
+#[derive(Clone, Copy)]
 pub struct Verdict {
     pub number: u8,
     pub class: u8,

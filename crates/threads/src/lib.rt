@@ -10,7 +10,7 @@ use instructions::{Addr, Var};
 use values::Slot;
 
 // The arrays come first, with no gap before them: threads and states are copied often.
-#[derive(Drop)]
+#[derive(Clone, Copy)]
 pub struct Thread {
     pub vars: [Slot; 16],
     pub stack: [Slot; 16],

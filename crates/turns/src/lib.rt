@@ -21,14 +21,14 @@ use threads::Thread;
 use values::Slot;
 
 // The answer of document 01's table, and the state: all answers but 0, 1, 2 give it back as given. The state comes first, with no gap before it.
-#[derive(Drop)]
+#[derive(Clone, Copy)]
 pub struct Stepped {
     pub state: State,
     pub answer: u8,
 }
 
 // What changes in the state beside the thread that takes its turn.
-#[derive(Drop)]
+#[derive(Clone, Copy)]
 pub enum Change {
     // Nothing, nor does the thread.
     Refusal,
@@ -47,7 +47,7 @@ pub enum Change {
 }
 
 // One turn of a thread: how it goes on, the answer, and what else changes.
-#[derive(Drop)]
+#[derive(Clone, Copy)]
 pub struct Turn {
     pub thread: Thread,
     pub answer: u8,

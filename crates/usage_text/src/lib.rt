@@ -12,7 +12,7 @@ ghost use Rattle.usage_text.specs.Answer.{refusal, whole_taken, weight_taken, en
 use ground::{back, byte};
 
 // What a text begins with: `0`, `L.`, `^L.`, `(`, or none of these.
-#[derive(Drop)]
+#[derive(Clone, Copy)]
 enum Head {
     Nought,
     Lock,
@@ -22,21 +22,21 @@ enum Head {
 }
 
 // How far below 0 the count may go, and how far above that it may end: no number is negative.
-#[derive(Drop)]
+#[derive(Clone, Copy)]
 struct Weight {
     pub dip: u16,
     pub rise: u16,
 }
 
 // What reading gives: nothing, or how many bytes are left behind the usage, and its weight.
-#[derive(Drop)]
+#[derive(Clone, Copy)]
 enum Taken {
     Nothing,
     Weighed(usize, Weight),
 }
 
 // The answer: a refusal's number or 0, dip, end, and whether the usage is reliable.
-#[derive(Drop)]
+#[derive(Clone, Copy)]
 pub struct Reading {
     pub number: u8,
     pub dip: u8,

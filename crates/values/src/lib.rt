@@ -4,7 +4,7 @@
 ghost use Rattle.std.specs.Prelude.{◌≡◌, not};
 ghost use Rattle.values.specs.Values.{inc_of, is_pos, zero_slot, ref_slot, null_slot, number_of, int_slot, bits_of, bits_of_slot, is_int, is_null, is_ref, object_of, inc_value, inc_slot, jumps, refers};
 
-#[derive(Drop)]
+#[derive(Clone, Copy)]
 pub enum Value {
     Int(i32),
     Ref(u8),
@@ -12,7 +12,7 @@ pub enum Value {
 }
 
 // A place that holds a value.
-#[derive(Drop)]
+#[derive(Clone, Copy)]
 pub struct Slot {
     pub value: Value,
 }

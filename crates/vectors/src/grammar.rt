@@ -17,7 +17,7 @@ use crate::numbers::NONE;
 use crate::{numbers, words};
 
 // A step as far as it was read: its capital, its numbers and how many there are, the place after them, and whether all was as its form says.
-#[derive(Drop)]
+#[derive(Clone, Copy)]
 pub(crate) struct Step {
     pub of: u8,
     pub numbers: [u32; 16],

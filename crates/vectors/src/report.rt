@@ -2,7 +2,7 @@
 use libc::STDOUT_FILENO;
 
 // How many cases were run, and how many of them were wrong.
-#[derive(Drop)]
+#[derive(Clone, Copy)]
 pub(crate) struct Tally {
     pub cases: u64,
     pub wrong: u64,

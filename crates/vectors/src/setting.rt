@@ -7,7 +7,7 @@ use structure::Verdict;
 use turns::Stepped;
 
 // What the steps have come to: the bundle's length, the state put together, what the machine's last step gave, what working the pairs out gave and of how many bytes, and whether each was a step.
-#[derive(Drop)]
+#[derive(Clone, Copy)]
 pub(crate) struct Setting {
     pub length: usize,
     pub state: State,
