@@ -47,7 +47,7 @@ module _ (g : Given) where
       record { lengths = a.0; short = leb-true w 65535 b.0; exception = ltb-true g.exception g.classes d.0 }
 
   pub all-measured : refusal_of g ≡ 0 → Measured g.classes g.directory g.descriptors g.instructions g.kinds g.depths
-  all-measured e = lengths.decreases g.classes g.directory g.descriptors g.instructions g.kinds g.depths (fit e).lengths
+  all-measured e = lengths.measured g.classes g.directory g.descriptors g.instructions g.kinds g.depths (fit e).lengths
 
   pub long : refusal_of g ≡ 0 → length (laid g) ≡ w
   long e = laid-long (all-measured e) g.exception
