@@ -1,0 +1,16 @@
+use borrow.Author.Tests.{ne_eqb, eq-eqb}
+use mathlib.Core.Bool.{not}
+use mathlib.Core.Path.{ap}
+use Rattle.ground.proofs.Chain.{then-stop, then-go}
+use Rattle.structure.proofs.FirstBroken.{structure-parts}
+use Rattle.structure.proofs.structure.Goals as goal
+
+pub returns-then-v-ne0 : goal.returns-then-v-ne0
+returns-then-v-ne0 c = rw (structure-parts _) (then-stop _ _ _ c.layout-v.ensures (ap not (ne_eqb _ _ c.if-v-ne0.true)))
+
+pub returns-then-w-ne0 : goal.returns-then-w-ne0
+returns-then-w-ne0 c = rw (structure-parts _) (then-go _ _ c.layout-v.ensures (ap not (eq-eqb _ _ c.if-v-ne0.false)) (then-stop _ _ _ c.tables-w.ensures (ap not (ne_eqb _ _ c.if-w-ne0.true))))
+
+pub returns : goal.returns
+returns c = rw (structure-parts _) (then-go _ _ c.layout-v.ensures (ap not (eq-eqb _ _ c.if-v-ne0.false))
+    (then-go _ _ c.tables-w.ensures (ap not (eq-eqb _ _ c.if-w-ne0.false)) (rw c.classes.ensures)))
