@@ -122,6 +122,7 @@ fn zero_from(a: [Slot; 16], from: u8, n: u8) -> [Slot; 16]
     next
 }
 
+#[tactic(auto, unfolding(crate::specs::Threads::popped))]
 pub fn pop(t: Thread, n: u8) -> Thread
     ensures { result ≡ popped n t }
 {
@@ -154,6 +155,7 @@ pub fn go(t: Thread, a: Addr) -> Thread
     next
 }
 
+#[tactic(auto, unfolding(crate::specs::Threads::ended))]
 pub fn end(t: Thread, v: u8) -> Thread
     ensures { result ≡ ended v t }
 {
@@ -192,6 +194,7 @@ fn arguments(starter: Thread, n: u8) -> [Slot; 16]
     next
 }
 
+#[tactic(auto, unfolding(crate::specs::Threads::started))]
 pub fn start(old: Thread, starter: Thread, c: u8, n: u8) -> Thread
     ensures { result ≡ started old starter c n }
 {
