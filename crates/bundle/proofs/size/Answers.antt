@@ -1,0 +1,21 @@
+use Rattle.ground.proofs.Bytes.{mul-under}
+use Prim.Native.Nat.{◌*◌, ◌≤◌}
+use native.Mathlib.Omega.{arith}
+use Rattle.bundle.specs.Container.{size}
+use Rattle.bundle.proofs.size.Goals as goal
+
+pub overflow_mul-result-2 : goal.overflow_mul-result-2
+overflow_mul-result-2 c =
+    let bound : c.args.k.code * c.width.result ≤ 65535 * 2041 = mul-under _ _ 65535 2041 (omega arith) (omega arith) in
+    omega arith
+
+pub overflow_add-result-3 : goal.overflow_add-result-3
+overflow_add-result-3 c =
+    let bound : c.args.k.code * c.width.result ≤ 65535 * 2041 = mul-under _ _ 65535 2041 (omega arith) (omega arith) in
+    omega arith
+
+pub returns : goal.returns
+unfolding size
+returns c =
+    let bound : c.args.k.code * c.width.result ≤ 65535 * 2041 = mul-under _ _ 65535 2041 (omega arith) (omega arith) in
+    (rw c.width.ensures.0, omega arith)
