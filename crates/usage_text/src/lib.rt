@@ -162,7 +162,7 @@ fn behind_unlock(t: Taken) -> Taken
 }
 
 // 0 or a bracket, behind prefixes; brackets may be nested `depth` deep.
-#[cycle(read_bracket_read_choice_read_choice_on_read_prefixed_read_shuffle_read_shuffle_on)]
+#[cycle(reading)]
 fn read_prefixed(s: &[u8], depth: usize) -> Taken
     requires { length s.now ≤ 256 }
     ensures { result ≡ taken_of (read_prefixed (read_inside depth) s.now) }
@@ -190,7 +190,7 @@ fn read_prefixed(s: &[u8], depth: usize) -> Taken
 }
 
 // What an open bracket holds, and the closing bracket: one level deeper, where there is one.
-#[cycle(read_bracket_read_choice_read_choice_on_read_prefixed_read_shuffle_read_shuffle_on)]
+#[cycle(reading)]
 fn read_bracket(s: &[u8], depth: usize) -> Taken
     requires { length s.now ≤ 256 }
     ensures { result ≡ taken_of (read_bracket (read_inside depth) s.now) }
@@ -213,7 +213,7 @@ fn read_bracket(s: &[u8], depth: usize) -> Taken
 }
 
 // Prefixed usages with `*` between them.
-#[cycle(read_bracket_read_choice_read_choice_on_read_prefixed_read_shuffle_read_shuffle_on)]
+#[cycle(reading)]
 fn read_shuffle(s: &[u8], depth: usize) -> Taken
     requires { length s.now ≤ 256 }
     ensures { result ≡ taken_of (read_shuffle (read_inside depth) s.now) }
@@ -229,7 +229,7 @@ fn read_shuffle(s: &[u8], depth: usize) -> Taken
 }
 
 // Further ones, behind some whose weight is w.
-#[cycle(read_bracket_read_choice_read_choice_on_read_prefixed_read_shuffle_read_shuffle_on)]
+#[cycle(reading)]
 fn read_shuffle_on(s: &[u8], w: Weight, depth: usize) -> Taken
     requires { (length s.now ≤ 256) × Low (256 - length s.now) w }
     ensures { Onward star both (read_prefixed (read_inside depth)) s.now w result }
@@ -249,7 +249,7 @@ fn read_shuffle_on(s: &[u8], w: Weight, depth: usize) -> Taken
 }
 
 // Shuffles with `&` between them.
-#[cycle(read_bracket_read_choice_read_choice_on_read_prefixed_read_shuffle_read_shuffle_on)]
+#[cycle(reading)]
 fn read_choice(s: &[u8], depth: usize) -> Taken
     requires { length s.now ≤ 256 }
     ensures { result ≡ taken_of (read_choice (read_inside depth) s.now) }
@@ -265,7 +265,7 @@ fn read_choice(s: &[u8], depth: usize) -> Taken
 }
 
 // Further ones, behind some whose weight is w.
-#[cycle(read_bracket_read_choice_read_choice_on_read_prefixed_read_shuffle_read_shuffle_on)]
+#[cycle(reading)]
 fn read_choice_on(s: &[u8], w: Weight, depth: usize) -> Taken
     requires { (length s.now ≤ 256) × Low (256 - length s.now) w }
     ensures { Onward ampersand either (read_shuffle (read_inside depth)) s.now w result }
