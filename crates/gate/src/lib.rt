@@ -1,4 +1,4 @@
-// Document 02, Q-12: the weaver's gate, as a C call: what is given is laid out as a bundle, its pairs are filled, and what is accepted is written.
+// Document 02, Q-12: the weaver's gate: what is given is laid out as a bundle, its pairs are filled, and what is accepted is written.
 #![tactic(auto)]
 
 ghost use Rattle.std.specs.Prelude.{◌≡◌, ◌≤◌, length, take};
@@ -72,8 +72,7 @@ fn gate_in(
 
 // The verdict's number in the low byte, the class in the next, the address in the two above, the written length in the upper half (0 on a refusal).
 // On success the finished bundle stands in the first bytes of `out`, which overlaps none of the other slices; a refusal writes nothing.
-#[unsafe(no_mangle)]
-pub extern "C" fn hveitmar_gate(
+pub fn hveitmar_gate(
     classes: u32,
     exception: u32,
     directory: &[u8],
