@@ -118,6 +118,7 @@ fn places(g: &[u8], p: usize) -> [Slot; 16]
     a
 }
 
+#[tactic(auto, unfolding(crate::specs::Format::thread_of))]
 fn thread(g: &[u8], p: usize) -> Thread
     requires { p < 1320 }
     ensures { result ≡ thread_of g.now p }
@@ -199,6 +200,7 @@ fn words(g: &[u8]) -> [u32; 8]
 }
 
 // What is read of bytes that is_state refuses means nothing.
+#[tactic(auto, unfolding(crate::specs::Format::state_of))]
 pub fn state(g: &[u8]) -> State
     ensures { result ≡ state_of g.now }
 {
