@@ -1,0 +1,21 @@
+use Rattle.std.proofs.Common.{rules}
+use Prim.Native.Nat.{◌-◌}
+use mathlib.Core.Bool.{true}
+use Rattle.ground.proofs.Bounded.{all-zero, all_more, all_left, all_done}
+use Rattle.ground.proofs.Bools.{passed, failed}
+use Rattle.forms.specs.Forms.{vars_formed}
+use Rattle.shape.proofs.vars_shaped.Goals as goal
+
+pub loop-i-init : goal.loop-i-init
+loop-i-init c = search (rules, all-zero)
+
+pub returns-then-not-var_shaped : goal.returns-then-not-var_shaped
+unfolding vars_formed
+returns-then-not-var_shaped c = all_left _ _ _ c.loop-i-test.true (failed c.var_shaped.ensures c.if-not-var_shaped.true-raw)
+
+pub loop-i-preserved : goal.loop-i-preserved
+loop-i-preserved c = (search rules, all_more _ _ c.loop-i.invariant.1 (passed c.var_shaped.ensures c.if-not-var_shaped.false-raw))
+
+pub returns : goal.returns
+unfolding vars_formed
+returns c = all_done _ _ _ c.loop-i.invariant.0 c.loop-i-test.false c.loop-i.invariant.1
