@@ -1,4 +1,4 @@
-//! Links the proved code: `rt staticlib exports` writes the library.
+//! Links the proved code: `./hveitmar build` writes the library.
 
 use std::path::Path;
 
@@ -8,7 +8,7 @@ fn main() {
     println!("cargo:rerun-if-changed={}", library.display());
     assert!(
         library.exists(),
-        "{} is missing: run `rt staticlib exports` first",
+        "{} is missing: run `./hveitmar build` first",
         library.display()
     );
     println!("cargo:rustc-link-search=native={}", folder.display());

@@ -9,24 +9,24 @@ use std::thread::sleep;
 use std::time::{Duration, Instant};
 
 /// All that the script calls besides rt and cargo.
-const UTILITIES: [&str; 14] = [
-    "awk", "cat", "chmod", "date", "find", "flock", "grep", "mkdir", "mv", "readlink", "sed",
+const UTILITIES: [&str; 15] = [
+    "awk", "cat", "chmod", "cp", "date", "find", "flock", "grep", "mkdir", "mv", "readlink", "sed",
     "setsid", "sleep", "tail",
 ];
 
 /// Proves two crates in two seconds, and writes the program: long enough for the
 /// first to be told of on a machine that is busy.
 const RT: &str = r#"
-echo "rt $*" >>runs
-mkdir -p target/bin target/staticlib
-echo 'rt: ground proved (1 s)'
+echo "rt $* in ${PWD##*/}" >>../../runs
+mkdir -p out
+echo 'crate ground: modules loaded=0 checked=9'
 sleep 1.5
-echo 'rt: hveitmar proved (1 s)'
+echo 'crate hveitmar: modules loaded=0 checked=9'
 sleep 0.5
-printf '#!/bin/sh\necho accepted classes 1\n' >target/bin/hveitmar
-chmod +x target/bin/hveitmar
-: >target/staticlib/libexports.a
-echo done >>runs
+printf '#!/bin/sh\necho accepted classes 1\n' >out/hveitmar
+chmod +x out/hveitmar
+: >out/libexports.a
+echo done >>../../runs
 "#;
 
 const CARGO: &str = r#"
@@ -42,10 +42,10 @@ impl Repository {
     fn new(name: &str, programs: &[(&str, &str)]) -> Repository {
         let root = Path::new(env!("CARGO_TARGET_TMPDIR")).join(name);
         let _ = fs::remove_dir_all(&root);
-        for folder in ["bin", "crates", "rust"] {
+        for folder in ["bin", "crates/exports", "crates/hveitmar", "rust"] {
             fs::create_dir_all(root.join(folder)).expect("a folder");
         }
-        let crates = "# two\nground:\nhveitmar: ground io\nexports: ground\n";
+        let crates = "# two\nground:\nhveitmar: ground\nexports staticlib: ground\n";
         fs::write(root.join("crates.txt"), crates).expect("a file");
         fs::write(root.join("rust/Cargo.toml"), "").expect("a file");
         let script = Path::new(env!("CARGO_MANIFEST_DIR")).join("../../hveitmar");
@@ -144,7 +144,7 @@ fn progress_goes_to_standard_error() {
         (second.out.as_str(), second.err.as_str()),
         ("accepted classes 1\n", "")
     );
-    assert_eq!(repository.runs(), "rt check hveitmar\ndone\n");
+    assert_eq!(repository.runs(), "rt run in hveitmar\ndone\n");
 }
 
 #[test]
@@ -154,7 +154,7 @@ fn a_change_builds_again() {
     fs::write(repository.0.join("rust/Cargo.toml"), "#").expect("a file");
     let compiled = repository.run(&["check", "x"]);
     assert!(compiled.err.contains("compiling the tool"), "{compiled:?}");
-    assert_eq!(repository.runs(), "rt staticlib exports\ndone\n");
+    assert_eq!(repository.runs(), "rt lib in exports\ndone\n");
     fs::write(repository.0.join("crates/new"), "").expect("a file");
     let proved = repository.run(&["check", "x"]);
     assert!(proved.err.contains("compiling the tool"), "{proved:?}");
@@ -164,12 +164,12 @@ fn a_change_builds_again() {
 
 #[test]
 fn a_failed_build_shows_why() {
-    let rt = "echo 'rt: ground NOT PROVED (exit 1, 2 s)'; exit 1";
+    let rt = "echo 'fn ground::byte: not proved'; exit 1";
     let repository = Repository::new("failed", &[("rt", rt), ("cargo", CARGO)]);
     for words in [&[][..], &["check", "x"]] {
         let ran = repository.run(words);
         assert_eq!((ran.out.as_str(), ran.status), ("", Some(2)), "{ran:?}");
-        assert!(ran.err.contains("rt: ground NOT PROVED"), "{ran:?}");
+        assert!(ran.err.contains("fn ground::byte: not proved"), "{ran:?}");
         assert!(ran.err.contains("the build failed: rt"), "{ran:?}");
     }
     let cargo = "echo 'error: no such thing' >&2; exit 101";
@@ -211,7 +211,7 @@ fn two_first_uses_at_once_build_once() {
         ("accepted classes 1\n", Some(0))
     );
     assert_eq!(ran(one).out, "accepted classes 1\n");
-    assert_eq!(repository.runs(), "rt check hveitmar\ndone\n");
+    assert_eq!(repository.runs(), "rt run in hveitmar\ndone\n");
 }
 
 #[test]
@@ -237,5 +237,5 @@ fn an_interrupted_use_ends_its_build() {
     assert!(kill.expect("kill").success());
     assert_eq!(one.wait().expect("it ends").code(), Some(2));
     sleep(Duration::from_millis(1_200));
-    assert_eq!(repository.runs(), "rt check hveitmar\n", "rt was ended too");
+    assert_eq!(repository.runs(), "rt run in hveitmar\n", "rt was ended too");
 }

@@ -29,7 +29,9 @@ fn with_words_it_is_the_command() {
 }
 
 #[test]
-fn its_link_is_the_trace_program() {
+fn its_copy_is_the_trace_program() {
+    let text = |name| std::fs::read(root().join(name)).expect("a script");
+    assert_eq!(text("hveitmar"), text("hveitmar_trace"));
     let ran = run("./hveitmar_trace", &[], &[0, 0, 0]);
     assert!(ran.out.starts_with("fresh 17\nthread 0 live 0"), "{ran:?}");
     let bad = run("./hveitmar_trace", &[], &[]);
