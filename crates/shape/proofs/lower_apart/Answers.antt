@@ -1,7 +1,5 @@
 use Rattle.std.proofs.Common.{rules}
-use Rattle.shape.specs.Apart.{lower_apart, apart_from}
-use Prim.Native.Nat.{◌-◌}
-use mathlib.Core.Bool.{true}
+use Rattle.shape.specs.Apart.{lower_apart}
 use Rattle.ground.proofs.Bounded.{all-zero, all_more, all_left, all_done}
 use Rattle.ground.proofs.Bools.{passed, failed}
 use Rattle.shape.proofs.lower_apart.Goals as goal

@@ -2,8 +2,6 @@ use Rattle.std.proofs.Common.{rules}
 use Rattle.forms.specs.Forms.{stack_formed}
 use Rattle.ground.proofs.Bools.{passed, failed}
 use Rattle.ground.proofs.Bounded.{all-zero, all_more, all_left, all_done}
-use mathlib.Core.Bool.{true}
-use Prim.Native.Nat.{◌-◌}
 use Rattle.shape.proofs.stack_shaped.Goals as goal
 
 pub loop-j-init : goal.loop-j-init
