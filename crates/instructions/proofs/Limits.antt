@@ -1,13 +1,13 @@
 -- The limits that the code reads are the table's.
 use mathlib.Core.Path.{◌≡◌, refl, sym, ◌∙◌}
 use mathlib.Core.Bool.{Bool, true, false, ◌&&◌, ◌||◌, not}
-use Prim.Native.Nat.{ℕ, zero, suc, ◌+◌, ◌<◌, ◌≤◌, ◌/◌, ◌%◌}
+use Prim.Native.Nat.{ℕ, zero, suc, ◌<◌, ◌≤◌, ◌/◌, ◌%◌}
 use native.Mathlib.Omega.{arith}
 use native.Mathlib.Decide.{ℕ_discrete}
 use lib.Dec.{ltb, leb, eqb}
 use borrow.Author.Tests.{le-ltb, lt-leb, le-leb, ne_eqb}
 use Rattle.ground.proofs.Bools.{and-true}
-use Rattle.instructions.specs.Table.{content_ok, table, find, line_of, no_line}
+use Rattle.instructions.specs.Table.{content_ok, table, find, line_of}
 use Rattle.instructions.specs.Limits.{operand_limit, address_reach}
 use Rattle.instructions.proofs.Table.{NoneOf, no_line_lem}
 

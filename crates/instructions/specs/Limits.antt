@@ -1,5 +1,5 @@
 -- The lines of the table up to 12 as limits that the code reads. No rule speaks of them: `proofs/Limits` shows that they are the lines'.
-use Rattle.std.specs.Prelude.{List, [], ◌∷◌, ℕ, ◌%◌, get_or}
+use Rattle.std.specs.Prelude.{[], ◌∷◌, ℕ, ◌%◌, get_or}
 
 -- an operand is below it: by its kind, 0 where there is no line, 1 where it is 0, V where it is a variable, the class count where it is a class
 unfoldable pub operand_limit : ℕ → ℕ → ℕ → ℕ

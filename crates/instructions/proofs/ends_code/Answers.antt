@@ -1,3 +1,4 @@
+use Rattle.std.proofs.Common.{rules}
 use mathlib.Core.Path.{sym}
 use Rattle.instructions.specs.Table.{table, find, line_of}
 use Rattle.instructions.proofs.Table.{NoneOf, ending, not-ending}
@@ -13,4 +14,4 @@ returns-in-12 c = rw c.in-12.is
 
 pub returns-in_default : goal.returns-in_default
 unfolding NoneOf ending table
-returns-in_default c = sym (not-ending _ c.in_default.in_default-own.rest)
+returns-in_default c = sym (not-ending _ (search rules))

@@ -1,3 +1,4 @@
+use Rattle.std.proofs.Common.{rules}
 use mathlib.Core.Path.{sym}
 use Rattle.instructions.specs.Table.{table, find, line_of}
 use Rattle.instructions.proofs.Table.{NoneOf, no-instruction}
@@ -61,4 +62,4 @@ returns-in-14 c = rw c.in-14.is
 
 pub returns-in_default : goal.returns-in_default
 unfolding NoneOf table
-returns-in_default c = sym (no-instruction c.args.x c.in_default.in_default-own.rest)
+returns-in_default c = sym (no-instruction c.args.x (search rules))
