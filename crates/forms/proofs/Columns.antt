@@ -9,7 +9,7 @@ use lib.Dec.{leb}
 use borrow.Author.Tests.{lt-ltb, le-ltb}
 use Rattle.ground.specs.Chain.{refuse}
 use Rattle.ground.specs.Bounded.{all_below}
-use Rattle.ground.proofs.Bools.{and-fst, and-snd, and_both, never}
+use Rattle.ground.proofs.Bools.{and_both}
 use Rattle.ground.proofs.Bounded.{all-elim, all-intro, all-some, all-stop}
 use Rattle.bundle.specs.declared.Class.{Class}
 use Rattle.entries.specs.Entries.{is_type, is_blank, entry_of, zeros}

@@ -1,9 +1,6 @@
 use Rattle.std.proofs.Common.{rules}
-use mathlib.Core.Bool.{true}
-use Prim.Native.Nat.{◌-◌}
 use Rattle.ground.proofs.Bools.{passed, failed}
 use Rattle.ground.proofs.Bounded.{all-zero, all_more, all_left, all_done}
-use Rattle.forms.specs.Columns.{column_formed}
 use Rattle.forms.proofs.columns_formed.Goals as goal
 
 pub loop-i-init : goal.loop-i-init

@@ -1,9 +1,7 @@
 use Rattle.std.proofs.Common.{rules}
-use Prim.Native.Nat.{◌-◌}
-use mathlib.Core.Bool.{true}
 use Rattle.ground.proofs.Bounded.{all-zero, all_more, all_left, all_done}
 use Rattle.ground.proofs.Bools.{passed, failed}
-use Rattle.forms.specs.Forms.{first_var, first_vars}
+use Rattle.forms.specs.Forms.{first_vars}
 use Rattle.forms.proofs.first_vars.Goals as goal
 
 pub loop-i-init : goal.loop-i-init

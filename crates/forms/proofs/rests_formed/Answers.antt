@@ -1,6 +1,4 @@
 use Rattle.std.proofs.Common.{rules}
-use mathlib.Core.Bool.{true}
-use Prim.Native.Nat.{◌-◌}
 use Rattle.ground.proofs.Bools.{passed, failed}
 use Rattle.ground.proofs.Bounded.{all-zero, all_more, all_left, all_done}
 use Rattle.forms.proofs.rests_formed.Goals as goal

@@ -1,6 +1,5 @@
 use Rattle.std.proofs.Common.{rules}
 use mathlib.Core.Bool.{true, false}
-use Prim.Native.Nat.{◌-◌}
 use native.Mathlib.Omega.{arith}
 use Rattle.ground.proofs.Bools.{passed, failed}
 use Rattle.ground.proofs.Bounded.{all_more, all_left, all_done}
