@@ -8,7 +8,7 @@ loop-p-init c = quiet-start _ _
 
 pub returns-then-not-known : goal.returns-then-not-known
 unfolding first_unknown unknown_at
-returns-then-not-known c = quiet-found _ _ c.loop-p.invariant c.loop-p-test.true (rw (← c.read_at-r.ensures.0, ← c.known.ensures) c.if-not-known.true-raw)
+returns-then-not-known c = quiet-found _ _ c.loop-p.invariant c.loop-p-test.true (rw (← c.read_at-r.ensures.0, ← c.known.ensures, c.if-not-known.true))
 
 pub overflow_add-p : goal.overflow_add-p
 overflow_add-p c = omega (arith, quiet-fits _ _ c.loop-p.invariant c.loop-p-test.true c.read_at-r.ensures.1)
@@ -17,7 +17,7 @@ pub loop-p-smaller : goal.loop-p-smaller
 loop-p-smaller c = omega (arith, quiet-fits _ _ c.loop-p.invariant c.loop-p-test.true c.read_at-r.ensures.1)
 
 pub loop-p-preserved : goal.loop-p-preserved
-loop-p-preserved c = quiet-turn _ _ c.loop-p.invariant c.loop-p-test.true (rw (← c.read_at-r.ensures.0, ← c.known.ensures) c.if-not-known.false-raw) c.read_at-r.ensures.1
+loop-p-preserved c = quiet-turn _ _ c.loop-p.invariant c.loop-p-test.true (rw (← c.read_at-r.ensures.0, ← c.known.ensures, c.if-not-known.false)) c.read_at-r.ensures.1
 
 pub returns : goal.returns
 unfolding first_unknown unknown_at

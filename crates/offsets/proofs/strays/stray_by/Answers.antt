@@ -16,7 +16,7 @@ branch_ok-requires c = (c.requires.0, c.reach-x.ensures.1)
 
 pub returns-then-not-branch_ok : goal.returns-then-not-branch_ok
 unfolding first_stray stray_at
-returns-then-not-branch_ok c = quiet-found _ _ c.loop-p.invariant.0 c.loop-p-test.true (rw (← c.read_at-r.ensures.0, ← c.branch_ok.ensures) c.if-not-branch_ok.true-raw)
+returns-then-not-branch_ok c = quiet-found _ _ c.loop-p.invariant.0 c.loop-p-test.true (rw (← c.read_at-r.ensures.0, ← c.branch_ok.ensures, c.if-not-branch_ok.true))
 
 pub overflow_add-p : goal.overflow_add-p
 overflow_add-p c = omega (arith, quiet-fits _ _ c.loop-p.invariant.0 c.loop-p-test.true c.read_at-r.ensures.1)
@@ -26,7 +26,7 @@ loop-p-smaller c = omega (arith, quiet-fits _ _ c.loop-p.invariant.0 c.loop-p-te
 
 pub loop-p-preserved : goal.loop-p-preserved
 loop-p-preserved c = (
-  quiet-turn _ _ c.loop-p.invariant.0 c.loop-p-test.true (rw (← c.read_at-r.ensures.0, ← c.branch_ok.ensures) c.if-not-branch_ok.false-raw) c.read_at-r.ensures.1,
+  quiet-turn _ _ c.loop-p.invariant.0 c.loop-p-test.true (rw (← c.read_at-r.ensures.0, ← c.branch_ok.ensures, c.if-not-branch_ok.false)) c.read_at-r.ensures.1,
   c.reach-x.ensures.0,
   c.reach-x.ensures.1,
   search rules,

@@ -9,11 +9,11 @@ loop-i-init c = (search rules, below_none _)
 
 pub returns-then-not-lands : goal.returns-then-not-lands
 unfolding first_stray_entry stray_entry
-returns-then-not-lands c = found _ _ _ c.loop-i-test.true c.loop-i.invariant.1 (rw (← c.handler_at-t.ensures, ← c.lands.ensures) c.if-not-lands.true-raw)
+returns-then-not-lands c = found _ _ _ c.loop-i-test.true c.loop-i.invariant.1 (rw (← c.handler_at-t.ensures, ← c.lands.ensures, c.if-not-lands.true))
 
 pub loop-i-preserved : goal.loop-i-preserved
 unfolding stray_entry
-loop-i-preserved c = (search rules, below_more _ _ c.loop-i.invariant.1 (rw (← c.handler_at-t.ensures, ← c.lands.ensures) c.if-not-lands.false-raw))
+loop-i-preserved c = (search rules, below_more _ _ c.loop-i.invariant.1 (rw (← c.handler_at-t.ensures, ← c.lands.ensures, c.if-not-lands.false)))
 
 pub returns : goal.returns
 unfolding first_stray_entry
