@@ -6,7 +6,6 @@ use Prim.Native.Nat.{ℕ, zero, suc, ◌+◌, ◌-◌, ◌*◌, ◌/◌, ◌%◌
 use native.Mathlib.Nat.{mod-lt, mod-eq_of_lt, div-eq_of_lt, add_comm}
 use native.Mathlib.Omega.{arith}
 use native.Mathlib.Decide.{ℕ_discrete}
-use native.Mathlib.Numerals.{add-one}
 use lib.Arith.{digits_mod, lt-one}
 use lib.Pow.{pow_pos, mod-pow-add}
 use lib.Bits.{bit_and, bit_or, and_step, or_step, and_shr, or_shr, and_le_l}
