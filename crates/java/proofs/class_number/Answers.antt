@@ -1,10 +1,8 @@
 use Rattle.std.proofs.Common.{rules}
-use mathlib.Core.Bool.{false}
 use Rattle.ground.proofs.Bounded.{first-at, first-none}
 use borrow.Author.Count.{below_none, below_more}
-use Rattle.java.specs.Classes.{is_index, class_number}
+use Rattle.java.specs.Classes.{class_number}
 use native.Mathlib.Omega.{arith}
-use Prim.Native.Nat.{◌-◌}
 use mathlib.Core.Path.{◌≡◌, sym, ◌∙◌}
 use Rattle.java.proofs.class_number.Goals as goal
 

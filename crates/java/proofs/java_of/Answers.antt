@@ -1,3 +1,4 @@
+use Rattle.std.proofs.Common.{rules}
 use Rattle.java.specs.Opcodes.{short, java_of}
 use Rattle.java.proofs.Opcodes.{not_short}
 use borrow.Author.Tests.{ne_eqb}
@@ -118,22 +119,22 @@ returns-in-132 c = rw c.in-132.is c.iinc.ensures
 pub returns-in_default : goal.returns-in_default
 unfolding java_of
 returns-in_default c =
-    let r = c.in_default.in_default-own.rest in
+    let op = c.args.op in
     rw (
-      ne_eqb _ 0 r.0.0.0.0.0.0.0.0.0.0.0.0.0.0.0.0.0.0.0.0.0.0.0.0.0.0.0.1,
-      ne_eqb _ 87 r.0.0.0.0.0.0.0.0.0.0.0.0.0.0.0.0.0.0.0.0.0.0.0.0.0.0.1,
-      ne_eqb _ 3 r.0.0.0.0.0.0.0.0.0.0.0.0.0.0.0.0.0.0.0.0.0.0.0.0.0.1,
-      ne_eqb _ 21 r.0.0.0.0.0.0.0.0.0.0.0.0.0.0.0.0.0.0.0.0.0.0.0.0.1,
-      not_short 26 _ r.0.0.0.0.0.0.0.0.0.0.0.0.0.0.0.0.0.0.0.0.0.0.0.1 r.0.0.0.0.0.0.0.0.0.0.0.0.0.0.0.0.0.0.0.0.0.0.1 r.0.0.0.0.0.0.0.0.0.0.0.0.0.0.0.0.0.0.0.0.0.1 r.0.0.0.0.0.0.0.0.0.0.0.0.0.0.0.0.0.0.0.0.1,
-      ne_eqb _ 25 r.0.0.0.0.0.0.0.0.0.0.0.0.0.0.0.0.0.0.0.1,
-      not_short 42 _ r.0.0.0.0.0.0.0.0.0.0.0.0.0.0.0.0.0.0.1 r.0.0.0.0.0.0.0.0.0.0.0.0.0.0.0.0.0.1 r.0.0.0.0.0.0.0.0.0.0.0.0.0.0.0.0.1 r.0.0.0.0.0.0.0.0.0.0.0.0.0.0.0.1,
-      ne_eqb _ 54 r.0.0.0.0.0.0.0.0.0.0.0.0.0.0.1,
-      not_short 59 _ r.0.0.0.0.0.0.0.0.0.0.0.0.0.1 r.0.0.0.0.0.0.0.0.0.0.0.0.1 r.0.0.0.0.0.0.0.0.0.0.0.1 r.0.0.0.0.0.0.0.0.0.0.1,
-      ne_eqb _ 58 r.0.0.0.0.0.0.0.0.0.1,
-      not_short 75 _ r.0.0.0.0.0.0.0.0.1 r.0.0.0.0.0.0.0.1 r.0.0.0.0.0.0.1 r.0.0.0.0.0.1,
-      ne_eqb _ 154 r.0.0.0.0.1,
-      ne_eqb _ 187 r.0.0.0.1,
-      ne_eqb _ 191 r.0.0.1,
-      ne_eqb _ 177 r.0.1,
-      ne_eqb _ 132 r.1,
+      ne_eqb op 0 (search rules),
+      ne_eqb op 87 (search rules),
+      ne_eqb op 3 (search rules),
+      ne_eqb op 21 (search rules),
+      not_short 26 op (search rules) (search rules) (search rules) (search rules),
+      ne_eqb op 25 (search rules),
+      not_short 42 op (search rules) (search rules) (search rules) (search rules),
+      ne_eqb op 54 (search rules),
+      not_short 59 op (search rules) (search rules) (search rules) (search rules),
+      ne_eqb op 58 (search rules),
+      not_short 75 op (search rules) (search rules) (search rules) (search rules),
+      ne_eqb op 154 (search rules),
+      ne_eqb op 187 (search rules),
+      ne_eqb op 191 (search rules),
+      ne_eqb op 177 (search rules),
+      ne_eqb op 132 (search rules),
     )
