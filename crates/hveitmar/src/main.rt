@@ -1,50 +1,42 @@
 // The verdict on a bundle that standard input holds, as one line on standard output.
 #![tactic(auto)]
 
-use libc::{STDIN_FILENO, STDOUT_FILENO};
+use std::io;
+use std::process::ExitCode;
 use structure::Verdict;
 
-fn print_accepted(classes: u8) {
-    io::write_all(STDOUT_FILENO, b"accepted classes ");
-    io::print_decimal(STDOUT_FILENO, classes as u64);
-    io::write_all(STDOUT_FILENO, b"\n");
+fn print_accepted(rt: &impl Print, classes: u8) -> io::Result<()> {
+    println!(rt; "accepted classes {classes}")
 }
 
-// Why the rule fails: for verdict 9 only.
-fn print_why(v: Verdict) {
-    if v.number == 9 {
-        io::write_all(STDOUT_FILENO, b" why ");
-        io::print_decimal(STDOUT_FILENO, v.why as u64);
+// Why the rule fails is told for verdict 9 only.
+fn print_refused(rt: &impl Print, v: Verdict) -> io::Result<()> {
+    let number = v.number;
+    let class = v.class;
+    let address = v.address;
+    if number == 9 {
+        let why = v.why;
+        return println!(rt; "refused {number} class {class} address {address} why {why}");
     }
+    println!(rt; "refused {number} class {class} address {address}")
 }
 
-fn print_refused(v: Verdict) {
-    io::write_all(STDOUT_FILENO, b"refused ");
-    io::print_decimal(STDOUT_FILENO, v.number as u64);
-    io::write_all(STDOUT_FILENO, b" class ");
-    io::print_decimal(STDOUT_FILENO, v.class as u64);
-    io::write_all(STDOUT_FILENO, b" address ");
-    io::print_decimal(STDOUT_FILENO, v.address as u64);
-    print_why(v);
-    io::write_all(STDOUT_FILENO, b"\n");
-}
-
-fn print_verdict(v: Verdict) {
+fn print_verdict(rt: &impl Print, v: Verdict) -> io::Result<()> {
     if v.number == 0 {
-        print_accepted(v.class);
-        return;
+        return print_accepted(rt, v.class);
     }
-    print_refused(v);
+    print_refused(rt, v)
 }
 
 // The buffer is one byte longer than any bundle: input that fills it draws verdict 1.
-fn main() {
-    let mut space = io::large_buffer();
-    let got = input::read(STDIN_FILENO, &mut space);
-    if got.failed {
-        os::fail(b"standard input");
-        return;
+fn main(rt: HostRuntime) -> io::Result<ExitCode> {
+    let mut space = [0u8; 65536];
+    let got = input::read(&mut rt.stdin(), &mut space);
+    if let Some(error) = got.failed {
+        eprintln!(rt; "standard input: {error}")?;
+        return Ok(ExitCode::FAILURE);
     }
     let n = got.count;
-    print_verdict(verifier::verify(&space[..n]));
+    print_verdict(&rt, verifier::verify(&space[..n]))?;
+    Ok(ExitCode::SUCCESS)
 }
