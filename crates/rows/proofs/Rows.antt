@@ -9,7 +9,7 @@ use native.Mathlib.Omega.{arith}
 use Rattle.ground.specs.Bytes.{at, quad}
 use Rattle.ground.specs.Chain.{refuse}
 use Rattle.bundle.specs.declared.Class.{Class}
-use Rattle.entries.specs.Entries.{Entry, Blank, zeros, entry_of}
+use Rattle.entries.specs.Entries.{Blank, zeros, entry_of}
 use Rattle.entries.specs.Words.{entry_from}
 use Rattle.entries.proofs.Words.{word_bytes}
 use Rattle.rows.specs.Rows.{entry_at, variable_at, stack_at}
