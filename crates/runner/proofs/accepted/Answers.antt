@@ -1,0 +1,26 @@
+use Rattle.runner.proofs.Halfway.{exception-8, begins, counted-in, counted-out, goes_on, arrives, ran-accepted}
+use native.Mathlib.Omega.{arith}
+use Rattle.runner.proofs.accepted.Goals as goal
+use Rattle.runner.proofs.accepted.Goals.{then-answer-le2, else-answer-le2}
+
+pub add-requires : goal.add-requires
+add-requires c = (rw c.exception-c.ensures (exception-8 c.args.b.now (rw (← c.requires.0) c.requires.1)), omega arith)
+
+pub loop-n-init : goal.loop-n-init
+loop-n-init c = begins _ (rw (← c.requires.0) c.requires.1) _ _ c.table_of-table.ensures _ c.exception-c.ensures _ _ _ _ c.add.ensures c.begin.ensures
+
+pub turn-answer-requires : goal.turn-answer-requires
+turn-answer-requires c = c.loop-n.invariant.running
+
+pub loop-n-preserved : goal.loop-n-preserved
+loop-n-preserved c =
+    goes_on _ _ _ _ _ _ c.loop-n.invariant c.loop-n-test.true _ _ _ c.turn-answer.ensures
+    (elim c.if-answer-le2.branch [
+      | then-answer-le2 w ↦ counted-in _ _ _ w.if-answer-le2.true w.steps-is
+      | else-answer-le2 w ↦ counted-out _ _ _ w.if-answer-le2.false w.steps-is
+    ])
+
+pub returns : goal.returns
+returns c =
+    let h = arrives _ _ _ _ _ _ c.loop-n.invariant (omega arith) in
+    rw (c.state_from-last.ensures, h.0, h.1, c.requires.0) (ran-accepted _ _ (rw (← c.requires.0) c.requires.1))

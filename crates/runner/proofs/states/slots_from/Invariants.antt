@@ -1,0 +1,13 @@
+use Rattle.runner.specs.Memory.{slot_from}
+use Rattle.values.specs.Values.{zero_slot}
+use Rattle.ground.specs.Bounded.{set_below}
+use lib.ListN.{replicate}
+use mathlib.Core.Path.{◌≡◌}
+use Prim.Native.Nat.{◌≤◌, ◌-◌}
+use Rattle.runner.proofs.states.slots_from.Given as goal
+
+abbrev pub invariant-loop-k : goal.invariant-loop-k
+invariant-loop-k l = (l.k ≤ 128) × (l.next ≡ set_below l.k (slot_from l.fields) (replicate 128 zero_slot))
+
+abbrev pub decreases-loop-k : goal.decreases-loop-k
+decreases-loop-k l = 128 - l.k
