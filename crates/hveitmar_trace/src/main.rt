@@ -5,56 +5,53 @@
 mod decode;
 mod print;
 
-use libc::{STDIN_FILENO, STDOUT_FILENO};
 use state::State;
+use std::io;
+use std::io::{BufWriter, Write};
+use std::process::ExitCode;
 
-fn follow(b: &[u8], start: State, schedule: &[u8], out: &mut [u8], at: usize) -> usize {
+fn follow(out: &mut impl Write, b: &[u8], start: State, schedule: &[u8]) -> io::Result<()> {
     let mut s = start;
-    let mut p = at;
-    for i in 0..schedule.len() {
-        let turn = schedule[i];
-        let thread = turn & 15;
-        let fails = 128 <= turn;
+    for (i, turn) in schedule.iter().enumerate() {
+        let thread = *turn & 15;
+        let fails = 128 <= *turn;
         let r = machine::step(b, s, thread, fails);
-        p = print::step_line(out, p, i + 1, thread, r.answer, fails);
-        p = print::drained(out, p);
-        let next = r.state;
-        s = next;
+        print::step_line(out, i + 1, thread, r.answer, fails)?;
+        s = r.state;
     }
-    print::state_lines(out, p, s)
+    print::state_lines(out, s)
 }
 
-fn trace(s: &[u8], out: &mut [u8]) -> usize {
+fn trace(out: &mut impl Write, s: &[u8]) -> io::Result<()> {
     let b = decode::bundle(s);
     let schedule = decode::schedule(s);
     if decode::is_given(s) {
-        let p = print::given_line(out);
-        return follow(b, decode::state(s), schedule, out, p);
+        print::given_line(out)?;
+        return follow(out, b, decode::state(s), schedule);
     }
     let r = machine::fresh(b);
-    let start = r.state;
-    let p = print::fresh_line(out, r.answer);
-    follow(b, start, schedule, out, p)
+    print::fresh_line(out, r.answer)?;
+    follow(out, b, r.state, schedule)
 }
 
-fn print_trace(s: &[u8]) {
+fn print_trace(out: &mut impl Write, s: &[u8]) -> io::Result<()> {
     if !decode::is_input(s) {
-        io::write_all(STDOUT_FILENO, b"bad input\n");
-        return;
+        return print::bad_line(out);
     }
-    let mut out = io::large_buffer();
-    let p = trace(s, &mut out);
-    print::drain(&out, p);
+    trace(out, s)
 }
 
 // The longest input is 2 + 65,535 + 1 + 2,537 + 4,096 bytes: what fills a buffer of one more has too many steps.
-fn main() {
+fn main(rt: HostRuntime) -> io::Result<ExitCode> {
     let mut space = [0u8; 72172];
-    let got = input::read(STDIN_FILENO, &mut space);
-    if got.failed {
-        os::fail(b"standard input");
-        return;
+    let got = input::read(&mut rt.stdin(), &mut space);
+    if let Some(error) = got.failed {
+        eprintln!(rt; "standard input: {error}")?;
+        return Ok(ExitCode::FAILURE);
     }
     let n = got.count;
-    print_trace(&space[..n]);
+    let mut out = BufWriter::new(rt.alloc(), io::writer(&rt))?;
+    print_trace(&mut out, &space[..n])?;
+    out.flush()?;
+    Ok(ExitCode::SUCCESS)
 }
