@@ -1,6 +1,8 @@
 // The lines of the text: comments, definitions of bundles, what the cases after it are given, and cases.
 use crate::report::Tally;
 use crate::{report, script, words};
+use std::io;
+use std::io::Write;
 
 fn counted(t: Tally, right: bool) -> Tally {
     Tally {
@@ -16,18 +18,24 @@ fn name_of<'a>(line: &'a [u8]) -> &'a [u8] {
 }
 
 // A case, after the line of what it is given.
-fn case(t: Tally, text: &[u8], given_line: &[u8], line: &[u8]) -> Tally {
+fn case(
+    out: &mut impl Write,
+    t: Tally,
+    text: &[u8],
+    given_line: &[u8],
+    line: &[u8],
+) -> io::Result<Tally> {
     let name = name_of(line);
     if name.len() == 0 {
-        report::wrong(line, b" has no name", b"");
-        return counted(t, false);
+        report::wrong(out, line, b" has no name", b"")?;
+        return Ok(counted(t, false));
     }
     let common = words::after_word(given_line, b"given");
-    let right = script::holds(text, common, words::piece(line, 0, b':'), name);
+    let right = script::holds(out, text, common, words::piece(line, 0, b':'), name)?;
     if right {
-        report::right(name);
+        report::right(out, name)?;
     }
-    counted(t, right)
+    Ok(counted(t, right))
 }
 
 // 1 where a line says what the cases after it are given, 0 where it is a case.
@@ -38,7 +46,7 @@ fn kind(line: &[u8]) -> u64 {
     words::place_in(b"given define #", words::piece(line, 0, b' '))
 }
 
-fn cases_of(text: &[u8]) -> Tally {
+fn cases_of(out: &mut impl Write, text: &[u8]) -> io::Result<Tally> {
     let mut t = Tally { cases: 0, wrong: 0 };
     let mut last = 0;
     let mut at = 0;
@@ -49,19 +57,25 @@ fn cases_of(text: &[u8]) -> Tally {
             last = at;
         }
         if k == 0 {
-            t = case(t, text, words::piece(text, last, b'\n'), &text[at..end]);
+            t = case(
+                out,
+                t,
+                text,
+                words::piece(text, last, b'\n'),
+                &text[at..end],
+            )?;
         }
         at = end + 1;
     }
-    t
+    Ok(t)
 }
 
 // All cases of a text, which is whole if it ends with a line's end.
-pub(crate) fn run(text: &[u8]) -> Tally {
-    let t = cases_of(text);
+pub(crate) fn run(out: &mut impl Write, text: &[u8]) -> io::Result<Tally> {
+    let t = cases_of(out, text)?;
     if ground::byte(text, ground::back(text, 1)) == b'\n' {
-        return t;
+        return Ok(t);
     }
-    report::wrong(b"the text", b" ends within a line", b"");
-    counted(t, false)
+    report::wrong(out, b"the text", b" ends within a line", b"")?;
+    Ok(counted(t, false))
 }

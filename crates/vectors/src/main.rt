@@ -16,25 +16,27 @@ mod states;
 mod wants;
 mod words;
 
-use libc::STDIN_FILENO;
+use std::io;
+use std::io::{BufWriter, Read, Write};
 
 // Room for the text. What fills it may be cut.
 type Space = [u8; 524288];
 
-fn run(space: &mut Space) {
-    let got = input::read(STDIN_FILENO, space);
-    if got.failed {
-        report::wrong(b"standard input", b" cannot be read", b"");
-        return;
+fn run(from: &mut impl Read, out: &mut impl Write, space: &mut Space) -> io::Result<()> {
+    let got = input::read(from, space);
+    if got.failed.is_some() {
+        return report::wrong(out, b"standard input", b" cannot be read", b"");
     }
     if got.count == 524288 {
-        report::wrong(b"standard input", b" is too long", b"");
-        return;
+        return report::wrong(out, b"standard input", b" is too long", b"");
     }
-    report::total(lines::run(words::first(space, got.count)));
+    let tally = lines::run(out, words::first(space, got.count))?;
+    report::total(out, tally)
 }
 
-fn main() {
+fn main(rt: HostRuntime) -> io::Result<()> {
     let mut space = [0u8; 524288];
-    run(&mut space);
+    let mut out = BufWriter::new(rt.alloc(), io::writer(&rt))?;
+    run(&mut rt.stdin(), &mut out, &mut space)?;
+    out.flush()
 }

@@ -1,5 +1,6 @@
 // The lines that the program writes.
-use libc::STDOUT_FILENO;
+use std::io;
+use std::io::Write;
 
 // How many cases were run, and how many of them were wrong.
 #[derive(Clone, Copy)]
@@ -8,50 +9,40 @@ pub(crate) struct Tally {
     pub wrong: u64,
 }
 
-fn text(s: &[u8]) {
-    io::write_all(STDOUT_FILENO, s);
-}
-
-pub(crate) fn right(name: &[u8]) {
-    text(b"ok ");
-    text(name);
-    text(b"\n");
+pub(crate) fn right(out: &mut impl Write, name: &[u8]) -> io::Result<()> {
+    out.write_all(b"ok ")?;
+    out.write_all(name)?;
+    out.write_all(b"\n")
 }
 
 // A case, or a part of the text; what is wrong with it, and where.
-pub(crate) fn wrong(name: &[u8], what: &[u8], part: &[u8]) {
-    text(b"WRONG ");
-    text(name);
-    text(what);
-    text(part);
-    text(b"\n");
+pub(crate) fn wrong(out: &mut impl Write, name: &[u8], what: &[u8], part: &[u8]) -> io::Result<()> {
+    out.write_all(b"WRONG ")?;
+    out.write_all(name)?;
+    out.write_all(what)?;
+    out.write_all(part)?;
+    out.write_all(b"\n")
 }
 
-fn number(n: u32) {
-    text(b" ");
-    io::print_decimal(STDOUT_FILENO, n as u64);
+fn numbers(out: &mut impl Write, a: [u32; 4]) -> io::Result<()> {
+    write!(out, " {} {} {} {}", a[0], a[1], a[2], a[3])
 }
 
-fn numbers(a: [u32; 4]) {
-    number(a[0]);
-    number(a[1]);
-    number(a[2]);
-    number(a[3]);
+pub(crate) fn other(
+    out: &mut impl Write,
+    name: &[u8],
+    got: [u32; 4],
+    want: [u32; 4],
+) -> io::Result<()> {
+    out.write_all(b"WRONG ")?;
+    out.write_all(name)?;
+    out.write_all(b" got")?;
+    numbers(out, got)?;
+    out.write_all(b" wanted")?;
+    numbers(out, want)?;
+    out.write_all(b"\n")
 }
 
-pub(crate) fn other(name: &[u8], got: [u32; 4], want: [u32; 4]) {
-    text(b"WRONG ");
-    text(name);
-    text(b" got");
-    numbers(got);
-    text(b" wanted");
-    numbers(want);
-    text(b"\n");
-}
-
-pub(crate) fn total(t: Tally) {
-    io::print_decimal(STDOUT_FILENO, t.cases);
-    text(b" cases, ");
-    io::print_decimal(STDOUT_FILENO, t.wrong);
-    text(b" wrong\n");
+pub(crate) fn total(out: &mut impl Write, t: Tally) -> io::Result<()> {
+    writeln!(out, "{} cases, {} wrong", t.cases, t.wrong)
 }

@@ -4,6 +4,8 @@ ghost use Rattle.std.specs.Prelude.{◌+◌, ◌≤◌, length};
 use crate::build::Buffer;
 use crate::setting::Setting;
 use crate::{setting, words};
+use std::io;
+use std::io::Write;
 
 // A place, or the one after it where a space stands there.
 fn after_space(s: &[u8], at: usize) -> usize
@@ -16,15 +18,21 @@ fn after_space(s: &[u8], at: usize) -> usize
     at
 }
 
-fn steps(p: Setting, b: &mut Buffer, s: &[u8], name: &[u8]) -> Setting {
+fn steps(
+    out: &mut impl Write,
+    p: Setting,
+    b: &mut Buffer,
+    s: &[u8],
+    name: &[u8],
+) -> io::Result<Setting> {
     let mut next = p;
     let mut at = 0;
     while at < s.len() {
         let end = words::upto(s, at, b';');
-        next = setting::step(next, b, &s[at..end], name);
+        next = setting::step(out, next, b, &s[at..end], name)?;
         at = after_space(s, end + 1);
     }
-    next
+    Ok(next)
 }
 
 // Where the last step begins.
@@ -64,24 +72,37 @@ fn definition<'a>(text: &'a [u8], name: &[u8]) -> &'a [u8] {
 }
 
 // The steps of a line, of which the first may name a bundle.
-fn laid(p: Setting, b: &mut Buffer, text: &[u8], s: &[u8], name: &[u8]) -> Setting {
+fn laid(
+    out: &mut impl Write,
+    p: Setting,
+    b: &mut Buffer,
+    text: &[u8],
+    s: &[u8],
+    name: &[u8],
+) -> io::Result<Setting> {
     let bundle = words::after_word(words::piece(s, 0, b';'), b"bundle");
     if bundle.len() == 0 {
-        return steps(p, b, s, name);
+        return steps(out, p, b, s, name);
     }
     let known = definition(text, bundle);
     if known.len() == 0 {
-        return setting::unsound(p, name, bundle);
+        return setting::unsound(out, p, name, bundle);
     }
-    let next = steps(p, b, known, name);
-    steps(next, b, after_first(s), name)
+    let next = steps(out, p, b, known, name)?;
+    steps(out, next, b, after_first(s), name)
 }
 
 // Whether all is as a case wants it.
-pub(crate) fn holds(text: &[u8], common: &[u8], own: &[u8], name: &[u8]) -> bool {
+pub(crate) fn holds(
+    out: &mut impl Write,
+    text: &[u8],
+    common: &[u8],
+    own: &[u8],
+    name: &[u8],
+) -> io::Result<bool> {
     let mut b = [0u8; 131072];
     let last = last_step(own);
-    let p = laid(setting::start(), &mut b, text, common, name);
-    let p = laid(p, &mut b, text, words::first(own, last), name);
-    setting::ends(p, &b, words::from(own, last), name)
+    let p = laid(out, setting::start(), &mut b, text, common, name)?;
+    let p = laid(out, p, &mut b, text, words::first(own, last), name)?;
+    setting::ends(out, p, &b, words::from(own, last), name)
 }

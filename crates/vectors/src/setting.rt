@@ -3,6 +3,8 @@ use crate::build::Buffer;
 use crate::grammar::Step;
 use crate::{build, fillings, grammar, report, runs, states, wants, words};
 use state::State;
+use std::io;
+use std::io::Write;
 use structure::Verdict;
 use turns::Stepped;
 
@@ -33,11 +35,16 @@ pub(crate) fn start() -> Setting {
 }
 
 // A step that is none, or not at its place.
-pub(crate) fn unsound(p: Setting, name: &[u8], step: &[u8]) -> Setting {
-    report::wrong(name, b" has no such step: ", step);
+pub(crate) fn unsound(
+    out: &mut impl Write,
+    p: Setting,
+    name: &[u8],
+    step: &[u8],
+) -> io::Result<Setting> {
+    report::wrong(out, name, b" has no such step: ", step)?;
     let mut next = p;
     next.sound = false;
-    next
+    Ok(next)
 }
 
 // A step that changes the bundle or the state, or one of the machine.
@@ -72,45 +79,58 @@ fn is_wanted(of: u8) -> bool {
     (of == b'S') | (of == b'J') | (of == b'Q') | (of == b'G') | (of == b'A') | (of == b'Y')
 }
 
-pub(crate) fn step(p: Setting, b: &mut Buffer, s: &[u8], name: &[u8]) -> Setting {
+pub(crate) fn step(
+    out: &mut impl Write,
+    p: Setting,
+    b: &mut Buffer,
+    s: &[u8],
+    name: &[u8],
+) -> io::Result<Setting> {
     if !p.sound {
-        return p;
+        return Ok(p);
     }
     let r = grammar::read(s);
     if !r.sound | is_wanted(r.of) {
-        return unsound(p, name, s);
+        return unsound(out, p, name, s);
     }
-    act(p, b, r)
+    Ok(act(p, b, r))
 }
 
-fn met(p: Setting, whole: &Buffer, r: Step, name: &[u8]) -> bool {
+fn met(out: &mut impl Write, p: Setting, whole: &Buffer, r: Step, name: &[u8]) -> io::Result<bool> {
     let b = words::first(whole, p.length);
     let v = r.numbers;
     let of = r.of;
     match of {
-        b'S' => wants::verdict(name, structure::structure(b), v),
-        b'J' => wants::verdict(name, verifier::verify(b), v),
-        b'Q' => wants::record(name, b, v),
-        b'A' => wants::holds(name, b, p.state, v),
+        b'S' => wants::verdict(out, name, structure::structure(b), v),
+        b'J' => wants::verdict(out, name, verifier::verify(b), v),
+        b'Q' => wants::record(out, name, b, v),
+        b'A' => wants::holds(out, name, b, p.state, v),
         b'Y' => wants::filled(
+            out,
             name,
             p.filled,
             v,
             (p.left == p.length) & fillings::same(whole),
         ),
-        _ => wants::stepped(name, p.came, p.state, v),
+        _ => wants::stepped(out, name, p.came, p.state, v),
     }
 }
 
 // A case ends with what is wanted; whether it is so.
-pub(crate) fn ends(p: Setting, b: &Buffer, s: &[u8], name: &[u8]) -> bool {
+pub(crate) fn ends(
+    out: &mut impl Write,
+    p: Setting,
+    b: &Buffer,
+    s: &[u8],
+    name: &[u8],
+) -> io::Result<bool> {
     if !p.sound {
-        return false;
+        return Ok(false);
     }
     let r = grammar::read(s);
     if r.sound & is_wanted(r.of) {
-        return met(p, b, r, name);
+        return met(out, p, b, r, name);
     }
-    report::wrong(name, b" wants no such thing: ", s);
-    false
+    report::wrong(out, name, b" wants no such thing: ", s)?;
+    Ok(false)
 }
