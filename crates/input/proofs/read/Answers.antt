@@ -1,5 +1,5 @@
 -- One more read: what it put after the bytes that came before is what the reader lost by it.
-use Rattle.std.proofs.Common.{◌≡◌, ◌∙◌, sym, ap, subst, ◌++◌, take, drop}
+use Rattle.std.proofs.Common.{◌∙◌, sym, ap, subst, ◌++◌, take, drop}
 use Rattle.std.proofs.Math.Seq.{take-add}
 use Rattle.std.proofs.KnownBytes.{Consumes-trans}
 use Rattle.std.specs.Io.KnownBytes.{Consumes}

@@ -1,5 +1,5 @@
 -- What came is within the buffer, and is what the reader lost. The measure is what is left of the buffer.
-use Rattle.std.proofs.Common.{◌≡◌, ◌≤◌, ◌-◌, length, take}
+use Rattle.std.proofs.Common.{◌≤◌, ◌-◌, length, take}
 use Rattle.std.specs.Io.KnownBytes.{Consumes}
 use Rattle.input.proofs.read.Given as goal
 
