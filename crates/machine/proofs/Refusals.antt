@@ -1,7 +1,7 @@
 -- How a step is put together: tests that refuse and give back the state as given, and then a move.
-use mathlib.Core.Path.{◌≡◌, refl}
+use mathlib.Core.Path.{◌≡◌, refl, sym, subst}
 use mathlib.Core.Logic.{◌≢◌}
-use mathlib.Core.Bool.{Bool, true, false, cond}
+use mathlib.Core.Bool.{Bool, true, false, cond, ◌&&◌}
 use mathlib.Core.List.{List}
 use Prim.Native.Nat.{ℕ, ◌≤◌, ◌<◌}
 use native.Mathlib.Omega.{arith}
@@ -14,6 +14,7 @@ use Rattle.bundle.specs.Program.{Method, program_of}
 use Rattle.structure.proofs.Structured.{WellFormed}
 use Rattle.state.specs.declared.State.{State}
 use Rattle.state.specs.State.{thread_at}
+use Rattle.belongs.specs.Belongs.{state_ok}
 use Rattle.belongs.proofs.Belongs.{Belongs, belongs-elim}
 use Rattle.turns.specs.declared.Stepped.{Stepped}
 use Rattle.turns.specs.Answers.{refused, unless, unless_drawn}
@@ -21,7 +22,7 @@ use Rattle.turns.specs.Faults.{fault_of}
 use Rattle.turns.specs.Waits.{wait_of}
 use Rattle.turns.specs.Moves.{move_of}
 use Rattle.turns.specs.Exec.{run_of}
-use Rattle.machine.specs.Machine.{step_of}
+use Rattle.machine.specs.Machine.{readable, step_of}
 use Rattle.machine.proofs.Ready.{formed}
 use Rattle.machine.proofs.Drawn.{fault-drawn, wait-drawn}
 
@@ -55,12 +56,19 @@ pub record Moving (b : List ℕ) (s : State) (i : ℕ) (fails : Bool) : Type 0 w
   pub no-fault : fault_of (program_of b) s i (thread_at s i) (method_here b s i) fails (instruction_here b s i) ≡ 0
   pub no-wait : wait_of s i (thread_at s i) (instruction_here b s i) ≡ 0
 
+-- the refusals of a step, in their order
+step_is : (b : List ℕ) (s : State) (i : ℕ) (fails : Bool)
+    → step_of b s i fails
+    ≡ unless (readable b) 17 s (unless (state_ok (program_of b) s) 18 s (unless (ltb i 8 && (thread_at s i).live) 5 s (run_of (program_of b) s i (thread_at s i) fails)))
+unfolding step_of
+step_is b s i fails = refl
+
 -- what holds of the state as given, refused with 3 or more, and of the move, holds of a step
 pub step_by : (Q : Stepped → Type 0) (b : List ℕ) (s : State) (i : ℕ) (fails : Bool) → ((n : ℕ) → 3 ≤ n → Q (refused n s))
     → (Moving b s i fails → Q (move_of (program_of b) s i (thread_at s i) (method_here b s i) fails (instruction_here b s i))) → Q (step_of b s i fails)
-unfolding step_of run_of
+unfolding run_of
 step_by Q b s i fails q p =
-    refuses Q s _ _ _ (λ _. q 17 (omega arith)) (λ e. refuses Q s _ _ _ (λ _. q 18 (omega arith)) (λ f. refuses Q s _ _ _ (λ _. q 5 (omega arith)) (λ g.
+    subst Q (sym (step_is b s i fails)) (refuses Q s _ _ _ (λ _. q 17 (omega arith)) (λ e. refuses Q s _ _ _ (λ _. q 18 (omega arith)) (λ f. refuses Q s _ _ _ (λ _. q 5 (omega arith)) (λ g.
     draws Q s _ _ (λ n. q _ ((fault-drawn (program_of b) s i (thread_at s i) (method_here b s i) fails (instruction_here b s i)).high n)) (λ h.
     draws Q s _ _ (λ n. q _ ((wait-drawn (program_of b) s i (thread_at s i) (instruction_here b s i)).high n)) (λ k.
     p (record {
@@ -70,4 +78,4 @@ step_by Q b s i fails q p =
       live = and-snd (ltb i 8) _ g;
       no-fault = h;
       no-wait = k;
-    }))))))
+    })))))))
