@@ -25,28 +25,28 @@ use Rattle.belongs.specs.Belongs.{places_refer, placed_ok, live_ok, thread_ok, t
 
 -- a live thread stands in a method of the bundle, and each place in use holds an integer or null, or refers to an object
 pub record Placed (P : Program) (objects : ℕ) (t : Thread) : Type 0 where
-  pub class-known : t.class < P.classes
-  pub address-first : 1 ≤ t.at.0
-  pub address-last : t.at.0 ≤ (P.method t.class).code
-  pub depth-limit : t.depth ≤ (P.method t.class).limit
-  pub variable-refers : (v : ℕ) → v < (P.method t.class).vars → refers objects (var_of t v) ≡ true
-  pub stack-refers : (p : ℕ) → p < t.depth → refers objects (get_or t.stack p zero_slot) ≡ true
+  pub class_known : t.class < P.classes
+  pub address_first : 1 ≤ t.at.0
+  pub address_last : t.at.0 ≤ (P.method t.class).code
+  pub depth_limit : t.depth ≤ (P.method t.class).limit
+  pub variable_refers : (v : ℕ) → v < (P.method t.class).vars → refers objects (var_of t v) ≡ true
+  pub stack_refers : (p : ℕ) → p < t.depth → refers objects (get_or t.stack p zero_slot) ≡ true
 
 -- a count of thread i on object o
 pub record Counted (objects : ℕ) (live : Bool) (o n : ℕ) : Type 0 where
-  pub count-2047 : n ≤ 2047
-  pub on-object : 0 < n → o < objects
-  pub by-live : 0 < n → live ≡ true
+  pub count_2047 : n ≤ 2047
+  pub on_object : 0 < n → o < objects
+  pub by_live : 0 < n → live ≡ true
 
 pub record Belongs (P : Program) (s : State) : Type 0 where
-  pub live-placed : (i : ℕ) → i < 8 → (thread_at s i).live ≡ true → Placed P s.objects (thread_at s i)
-  pub some-object : 1 ≤ s.objects
-  pub first-class : class_of s 0 ≡ P.exception
-  pub objects-32 : s.objects ≤ 32
-  pub object-class : (o : ℕ) → o < s.objects → class_of s o < P.classes
-  pub field-refers : (o f : ℕ) → o < s.objects → f < (P.method (class_of s o)).fields → refers s.objects (field_of s.fields o f) ≡ true
+  pub live_placed : (i : ℕ) → i < 8 → (thread_at s i).live ≡ true → Placed P s.objects (thread_at s i)
+  pub some_object : 1 ≤ s.objects
+  pub first_class : class_of s 0 ≡ P.exception
+  pub objects_32 : s.objects ≤ 32
+  pub object_class : (o : ℕ) → o < s.objects → class_of s o < P.classes
+  pub field_refers : (o f : ℕ) → o < s.objects → f < (P.method (class_of s o)).fields → refers s.objects (field_of s.fields o f) ≡ true
   pub counted : (i o : ℕ) → i < 8 → o < 32 → Counted s.objects (thread_at s i).live o (count_of s.counts i o)
-  pub one-holder : (i j o : ℕ) → i < 8 → j < 8 → o < 32 → 0 < count_of s.counts i o → 0 < count_of s.counts j o → i ≡ j
+  pub one_holder : (i j o : ℕ) → i < 8 → j < 8 → o < 32 → 0 < count_of s.counts i o → 0 < count_of s.counts j o → i ≡ j
   pub worded : Worded s
 
 -- what `refers` says of a reference
@@ -63,24 +63,24 @@ placed-elim : (P : Program) (objects : ℕ) (t : Thread) → live_ok P objects t
 unfolding live_ok placed_ok places_refer
 placed-elim P objects t e =
     record {
-      class-known = ltb-true _ _ (search and-fst);
-      address-first = leb-true _ _ (search (and-fst, and-snd));
-      address-last = leb-true _ _ (search (and-fst, and-snd));
-      depth-limit = leb-true _ _ (search (and-fst, and-snd));
-      variable-refers = all-elim _ (P.method t.class).vars (search (and-fst, and-snd));
-      stack-refers = all-elim _ t.depth (search (and-fst, and-snd));
+      class_known = ltb-true _ _ (search and-fst);
+      address_first = leb-true _ _ (search (and-fst, and-snd));
+      address_last = leb-true _ _ (search (and-fst, and-snd));
+      depth_limit = leb-true _ _ (search (and-fst, and-snd));
+      variable_refers = all-elim _ (P.method t.class).vars (search (and-fst, and-snd));
+      stack_refers = all-elim _ t.depth (search (and-fst, and-snd));
     }
 
 placed-intro : (P : Program) (objects : ℕ) (t : Thread) → Placed P objects t → live_ok P objects t ≡ true
 unfolding live_ok placed_ok places_refer
 placed-intro P objects t p =
     rw (
-      lt-ltb _ _ p.class-known,
-      le-leb _ _ p.address-first,
-      le-leb _ _ p.address-last,
-      le-leb _ _ p.depth-limit,
-      all-intro _ (P.method t.class).vars p.variable-refers,
-      all-intro _ t.depth p.stack-refers,
+      lt-ltb _ _ p.class_known,
+      le-leb _ _ p.address_first,
+      le-leb _ _ p.address_last,
+      le-leb _ _ p.depth_limit,
+      all-intro _ (P.method t.class).vars p.variable_refers,
+      all-intro _ t.depth p.stack_refers,
     )
 
 -- ---- one count
@@ -89,13 +89,13 @@ unfolding count_ok
 counted-elim objects live o n e = go (ℕ_discrete n 0)
   where
     go : Dec (n ≡ 0) → Counted objects live o n
-    go (yes q) = record { count-2047 = omega arith; on-object = λ l. absurd (omega arith); by-live = λ l. absurd (omega arith) }
+    go (yes q) = record { count_2047 = omega arith; on_object = λ l. absurd (omega arith); by_live = λ l. absurd (omega arith) }
     go (no q) =
         let h = or_right (eqb n 0) _ e (ne_eqb n 0 q) in
         record {
-          count-2047 = leb-true _ _ (search (and-fst, and-snd));
-          on-object = λ l. ltb-true _ _ (search (and-fst, and-snd));
-          by-live = λ l. search (and-fst, and-snd);
+          count_2047 = leb-true _ _ (search (and-fst, and-snd));
+          on_object = λ l. ltb-true _ _ (search (and-fst, and-snd));
+          by_live = λ l. search (and-fst, and-snd);
         }
 
 counted-intro : (objects : ℕ) (live : Bool) (o n : ℕ) → Counted objects live o n → count_ok objects live o n ≡ true
@@ -106,7 +106,7 @@ counted-intro objects live o n k = go (ℕ_discrete n 0)
     go (yes q) = rw (eq-eqb n 0 q)
     go (no q) =
         let l : 0 < n = omega arith in
-        rw (ne_eqb n 0 q, le-leb _ _ k.count-2047, lt-ltb _ _ (k.on-object l), k.by-live l)
+        rw (ne_eqb n 0 q, le-leb _ _ k.count_2047, lt-ltb _ _ (k.on_object l), k.by_live l)
 
 -- ---- one bit
 pub agrees-elim : (w o n : ℕ) → bit_agrees w o n ≡ true → bit w o ≡ ltb 0 n
@@ -193,14 +193,14 @@ module _ (P : Program) (s : State) where
   belongs-elim e =
       let counts = counts-elim (search (and-fst, and-snd)) in
       record {
-        live-placed = threads-elim (search (and-fst, and-snd));
-        some-object = leb-true _ _ (search (and-fst, and-snd) depth 8);
-        first-class = eqb-true _ _ (search (and-fst, and-snd) depth 8);
-        objects-32 = objects-elim (search (and-fst, and-snd));
-        object-class = λ o l. ltb-true _ _ (all-elim (object_ok P s.classes) s.objects (search (and-fst, and-snd) depth 8) o l);
-        field-refers = λ o f l k. all-elim _ (P.method (class_of s o)).fields (all-elim (fields_refer P s.objects s.classes s.fields) s.objects (search (and-fst, and-snd)) o l) f k;
+        live_placed = threads-elim (search (and-fst, and-snd));
+        some_object = leb-true _ _ (search (and-fst, and-snd) depth 8);
+        first_class = eqb-true _ _ (search (and-fst, and-snd) depth 8);
+        objects_32 = objects-elim (search (and-fst, and-snd));
+        object_class = λ o l. ltb-true _ _ (all-elim (object_ok P s.classes) s.objects (search (and-fst, and-snd) depth 8) o l);
+        field_refers = λ o f l k. all-elim _ (P.method (class_of s o)).fields (all-elim (fields_refer P s.objects s.classes s.fields) s.objects (search (and-fst, and-snd)) o l) f k;
         counted = counts;
-        one-holder = λ i j o a b l d f. sole-elim s.counts o i j (all-elim (sole_holder s.counts) s.objects (search (and-fst, and-snd)) o ((counts i o a l).on-object d)) a b d f;
+        one_holder = λ i j o a b l d f. sole-elim s.counts o i j (all-elim (sole_holder s.counts) s.objects (search (and-fst, and-snd)) o ((counts i o a l).on_object d)) a b d f;
         worded = words-elim (search (and-fst, and-snd));
       }
 
@@ -208,13 +208,13 @@ module _ (P : Program) (s : State) where
   unfolding state_ok objects_ok first_ok sole_holders fields_ok fields_refer
   belongs-intro h =
       rw (
-        le-leb _ _ h.some-object,
-        eq-eqb _ _ h.first-class,
-        le-leb _ _ h.objects-32,
-        all-intro _ s.objects (λ o l. lt-ltb _ _ (h.object-class o l)),
-        threads-intro h.live-placed,
+        le-leb _ _ h.some_object,
+        eq-eqb _ _ h.first_class,
+        le-leb _ _ h.objects_32,
+        all-intro _ s.objects (λ o l. lt-ltb _ _ (h.object_class o l)),
+        threads-intro h.live_placed,
         counts-intro h.counted,
         words-intro h.worded,
-        all-intro _ s.objects (λ o l. sole-intro s.counts o (λ i j a b. h.one-holder i j o a b (omega (arith, h.objects-32)))),
-        all-intro _ s.objects (λ o l. all-intro _ (P.method (class_of s o)).fields (λ f k. h.field-refers o f l k)),
+        all-intro _ s.objects (λ o l. sole-intro s.counts o (λ i j a b. h.one_holder i j o a b (omega (arith, h.objects_32)))),
+        all-intro _ s.objects (λ o l. all-intro _ (P.method (class_of s o)).fields (λ f k. h.field_refers o f l k)),
       )

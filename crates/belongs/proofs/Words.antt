@@ -100,7 +100,7 @@ apart-sole s h few counted = go (bits_apart s.held) refl (sole_holders s.counts 
       where
         free : (i : ℕ) → i < 8 → Dec (count_of s.counts i o ≡ 0) → holds_at s.counts o i ≡ false
         free i m (yes q) = rw (eq-eqb _ 0 q)
-        free i m (no q) = absurd (omega (arith, (counted i o m l).on-object (omega arith)))
+        free i m (no q) = absurd (omega (arith, (counted i o m l).on_object (omega arith)))
 
     go : (a : Bool) → bits_apart s.held ≡ a → (b : Bool) → sole_holders s.counts s.objects ≡ b → a ≡ b
     go true p true q = refl

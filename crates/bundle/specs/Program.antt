@@ -24,7 +24,7 @@ pub record Program : Type 0 where
 
 -- l is an address of class c
 pub record Address (P : Program) (c l : ℕ) : Type 0 where
-  pub class-known : c < P.classes
+  pub class_known : c < P.classes
   pub first : 1 ≤ l
   pub last : l ≤ (P.method c).code
 

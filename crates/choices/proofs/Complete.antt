@@ -125,7 +125,7 @@ module _ (b : List ℕ) (c : ℕ) where
 
   address : (l : ℕ) → c < classes b → 1 ≤ l → l ≤ (class_at b c).code → Address (program_of b) c l
   unfolding program_of method_at method_of
-  address l h low high = record { class-known = h; first = low; last = high }
+  address l h low high = record { class_known = h; first = low; last = high }
 
 module _ (b : List ℕ) (R : Readable b) where
   -- ---- the program of a choice is b's
@@ -143,7 +143,7 @@ module _ (b : List ℕ) (R : Readable b) where
     in_b : (c l : ℕ) → Address (program_of x) c l → (c < classes b) × (1 ≤ l) × (l ≤ (class_at b c).code)
     unfolding program_of method_at method_of
     in_b c l a =
-        let h : c < classes b = rw (classes-same b R x C.alike) at a.class-known in
+        let h : c < classes b = rw (classes-same b R x C.alike) at a.class_known in
         let m : l ≤ (class_at b c).code = rw (class_same b R x C.alike c h) at a.last in (h, a.first, m)
 
     structure-holds : (p : structure.Place) → structure.Within x p → structure.holds x p ≡ true
@@ -249,7 +249,7 @@ module _ (b : List ℕ) (R : Readable b) where
             let h' : c < classes y = rw (classes-same b R y D.alike) h in
             let m = class-limits b (good b R) c h in
             first_of x C c h
-            ∙ first_under (class_at b c).vars (class_at b c).args (at (part_of x (class_at b c))) (at (part_of y (class_at b c))) (rows_in x c 1) (rows_in y c 1) (under c h 1 (omega arith) m.some-code) m.args-vars
+            ∙ first_under (class_at b c).vars (class_at b c).args (at (part_of x (class_at b c))) (at (part_of y (class_at b c))) (rows_in x c 1) (rows_in y c 1) (under c h 1 (omega arith) m.some_code) m.args_vars
             (λ i l. code_same b R x C.alike c h i (omega arith) ∙ sym (code_same b R y D.alike c h i (omega arith))) (sym (first_of y D c h) ∙ verdict-zero y A (first c) h')
         at_place (rule c l) w =
             let a = in_b x C c l w in

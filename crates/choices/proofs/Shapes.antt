@@ -20,7 +20,7 @@ use Rattle.shape.specs.PairBytes.{behind, place_in, place_of, depth_of, InUse, R
 use Rattle.shape.specs.Shape.{aside, entry_aside, variable_aside, stack_aside, row_aside}
 use Rattle.shape.specs.Apart.{Readable}
 use Rattle.shape.proofs.Places.{place-high}
-use Rattle.shape.proofs.Readable.{part-byte, part-long, row-shaped, depth-limit, extent}
+use Rattle.shape.proofs.Readable.{part-byte, part-long, row-shaped, depth_limit, extent}
 use Rattle.needs.specs.Exactly.{Under, same, less, UnderRow}
 use Rattle.choices.specs.Choice.{Choice, Below}
 use Rattle.choices.proofs.Choices.{reference-is, entry-x, kind-same, kind-class-same, entry-b, variable-x, stack-x, depth_same}
@@ -130,7 +130,7 @@ module _ (b : List ℕ) (R : Readable b) (c : ℕ) (lc : c < classes b) where
         go (no h) =
             let e : k.vars + (s - k.vars) ≡ s = omega arith in
             let j : s - k.vars < shape.depth = omega arith in
-            let m : s - k.vars < k.limit = omega (arith, depth-limit b R c l lc low high) in
+            let m : s - k.vars < k.limit = omega (arith, depth_limit b R c l lc low high) in
             rw (shape-stack (s - k.vars) m, e) at (formed-used k.vars k.limit shape (row-shaped b R c l lc low high) (s - k.vars) j m)
 
     unused-shaped : (j : ℕ) → depth_of b c l ≤ j → j < k.limit → is_blank (aside_b (k.vars + j)) ≡ true
@@ -152,18 +152,18 @@ module _ (b : List ℕ) (R : Readable b) (c : ℕ) (lc : c < classes b) where
       -- a reference in use, with the choice's pair
       pub reference-entry : (s : ℕ) → Reference b c l s → entry s ≡ Ref (at b (P s + 1)) (at x (P s + 2)) (at x (P s + 3))
       reference-entry s q =
-          let h : s < k.vars + k.limit = omega (arith, q.in_use.used, depth-limit b R c l lc low high) in
+          let h : s < k.vars + k.limit = omega (arith, q.in_use.used, depth_limit b R c l lc low high) in
           rw (kind-same b R x C.alike c lc l low high s h, kind-class-same b R x C.alike c lc l low high s h, q.kind)
-          (reference-is n _ _ _ (reference-class s q) (C.dips c l s q) (C.least-end c l s q) (C.ends c l s q))
+          (reference-is n _ _ _ (reference-class s q) (C.dips c l s q) (C.least_end c l s q) (C.ends c l s q))
 
       in-use-of : (s : ℕ) → s < k.vars + depth_of b c l → InUse b c l s
-      in-use-of s u = record { class-known = lc; first = low; last = high; used = u }
+      in-use-of s u = record { class_known = lc; first = low; last = high; used = u }
 
       entry-typed : (s : ℕ) → s < k.vars + depth_of b c l → is_type (entry s) ≡ true
       entry-typed s u = go (ℕ_discrete (at b (P s)) 3)
         where
           h : s < k.vars + k.limit
-          h = omega (arith, depth-limit b R c l lc low high)
+          h = omega (arith, depth_limit b R c l lc low high)
 
           go : Dec (at b (P s) ≡ 3) → is_type (entry s) ≡ true
           go (yes e) = rw (reference-entry s (record { in_use = in-use-of s u; kind = e }))
@@ -193,7 +193,7 @@ module _ (b : List ℕ) (R : Readable b) (c : ℕ) (lc : c < classes b) where
       unfolding row_formed vars_formed stack_formed entry_formed
       row-formed =
           and_both _ _
-          (and_both _ _ (le-leb row.depth k.limit (rw row-depth (depth-limit b R c l lc low high)))
+          (and_both _ _ (le-leb row.depth k.limit (rw row-depth (depth_limit b R c l lc low high)))
           (all-intro (var_formed row) k.vars (λ i h. rw (row-variable i h) (entry-typed i (omega arith)))))
           (all-intro (entry_formed row) k.limit (λ j h. stack-formed j h (dec_lt j (depth_of b c l))))
         where
@@ -223,6 +223,6 @@ module _ (b : List ℕ) (R : Readable b) (c : ℕ) (lc : c < classes b) where
             depth = row-depth x C ∙ sym (row-depth y D);
             variable = λ i h. rw (row-variable x C i h, row-variable y D i h) (entry-under i (omega arith));
             stack = λ j h.
-                let u : j < k.limit = omega (arith, rw (row-depth x C) at h, depth-limit b R c l lc low high) in
+                let u : j < k.limit = omega (arith, rw (row-depth x C) at h, depth_limit b R c l lc low high) in
                 rw (row-stack x C j u, row-stack y D j u) (entry-under (k.vars + j) (omega arith));
           }

@@ -16,7 +16,7 @@ use Rattle.entries.specs.Entries.{Entry, Ref, entry_of, is_reference}
 use Rattle.entries.proofs.Types.{reference-bytes}
 use Rattle.shape.specs.PairBytes.{place_of, depth_of, InUse, Reference}
 use Rattle.shape.specs.Apart.{Readable}
-use Rattle.shape.proofs.Readable.{depth-limit}
+use Rattle.shape.proofs.Readable.{depth_limit}
 use Rattle.needs.specs.declared.Pair.{Pair}
 use Rattle.needs.specs.Needs.{entry_need}
 use Rattle.needs.specs.Exactly.{Has}
@@ -42,27 +42,27 @@ module _ (b : List ℕ) (R : Readable b) (x : List ℕ) (C : Choice b x) where
       u = r.in_use
 
       d : depth_of b c l ≤ (class_at b c).limit
-      d = depth-limit b R c l u.class-known u.first u.last
+      d = depth_limit b R c l u.class_known u.first u.last
 
       have : HaveAt b R x y c l
-      have = forced b R x y C D A below c l u.class-known u.first u.last
+      have = forced b R x y C D A below c l u.class_known u.first u.last
 
       of-reference : {p : Pair} → Has p (entry_of (classes b) (at y (place_of b c l s)) (at y (place_of b c l s + 1)) (at y (place_of b c l s + 2)) (at y (place_of b c l s + 3)))
           → (p.dip ≤ at y (place_of b c l s + 2)) × (p.end ≤ at y (place_of b c l s + 3))
       of-reference {p} h =
-          let g : Has p (Ref (at b (place_of b c l s + 1)) (at y (place_of b c l s + 2)) (at y (place_of b c l s + 3))) = rw (reference-entry b R c u.class-known l u.first u.last y D s r) at h in
+          let g : Has p (Ref (at b (place_of b c l s + 1)) (at y (place_of b c l s + 2)) (at y (place_of b c l s + 3))) = rw (reference-entry b R c u.class_known l u.first u.last y D s r) at h in
           (g.dip, g.end)
 
       go : Dec (s < (class_at b c).vars) → ((need_at b x c l s).dip ≤ at y (place_of b c l s + 2)) × ((need_at b x c l s).end ≤ at y (place_of b c l s + 3))
       go (yes h) =
           rw (lt-ltb s (class_at b c).vars h)
-          (of-reference (rw (row-variable b R c u.class-known l u.first u.last y D s h) at (have.variable s h)))
+          (of-reference (rw (row-variable b R c u.class_known l u.first u.last y D s h) at (have.variable s h)))
       go (no h) =
           let e : (class_at b c).vars + (s - (class_at b c).vars) ≡ s = omega arith in
           let j : s - (class_at b c).vars < depth_of b c l = omega (arith, u.used) in
-          let k = rw (← row-depth b R c u.class-known l u.first u.last x C) at j in
+          let k = rw (← row-depth b R c u.class_known l u.first u.last x C) at j in
           rw (le-ltb s (class_at b c).vars (omega arith))
-          (of-reference (rw (row-stack b R c u.class-known l u.first u.last y D (s - (class_at b c).vars) (omega (arith, d)), e) at (have.stack (s - (class_at b c).vars) k)))
+          (of-reference (rw (row-stack b R c u.class_known l u.first u.last y D (s - (class_at b c).vars) (omega (arith, d)), e) at (have.stack (s - (class_at b c).vars) k)))
 
   -- where every reference has what is asked, nothing is left to raise
   module _ (f : (c l s : ℕ) → Reference b c l s → Enough b x c l s) (c l : ℕ) (lc : c < classes b) (low : 1 ≤ l) (high : l ≤ (class_at b c).code) where
@@ -75,9 +75,9 @@ module _ (b : List ℕ) (R : Readable b) (x : List ℕ) (C : Choice b x) where
     of_entry : (s : ℕ) → s < k.vars + depth_of b c l → is_reference (entry s) ≡ true → Has (need_at b x c l s) (entry s)
     of_entry s h q =
         let e : at b (place_of b c l s) ≡ 3 =
-        sym (kind-same b R x C.alike c lc l low high s (omega (arith, depth-limit b R c l lc low high)))
+        sym (kind-same b R x C.alike c lc l low high s (omega (arith, depth_limit b R c l lc low high)))
         ∙ kind_3 (classes b) (at x (place_of b c l s)) (at x (place_of b c l s + 1)) (at x (place_of b c l s + 2)) (at x (place_of b c l s + 3)) q in
-        let r : Reference b c l s = record { in_use = record { class-known = lc; first = low; last = high; used = h }; kind = e } in
+        let r : Reference b c l s = record { in_use = record { class_known = lc; first = low; last = high; used = h }; kind = e } in
         rw (reference-entry b R c lc l low high x C s r) (record { dip = (f c l s r).dip; end = (f c l s r).end })
 
     still-at : MeetAt b R x x c l
@@ -89,7 +89,7 @@ module _ (b : List ℕ) (R : Readable b) (x : List ℕ) (C : Choice b x) where
               rw (row-variable b R c lc l low high x C i h) (rw (lt-ltb i k.vars h) at (of_entry i (omega arith) q'));
           stack = λ j h q.
               let d : j < depth_of b c l = rw (row-depth b R c lc l low high x C) at h in
-              let m : j < k.limit = omega (arith, depth-limit b R c l lc low high) in
+              let m : j < k.limit = omega (arith, depth_limit b R c l lc low high) in
               let e : k.vars + j - k.vars ≡ j = omega arith in
               let q' : is_reference (entry (k.vars + j)) ≡ true = rw (row-stack b R c lc l low high x C j m) at q in
               rw (row-stack b R c lc l low high x C j m) (rw (le-ltb (k.vars + j) k.vars (omega arith), e) at (of_entry (k.vars + j) (omega arith) q'));

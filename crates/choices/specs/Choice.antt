@@ -15,7 +15,7 @@ pub record Alike (b x : List ℕ) : Type 0 where
 pub record Choice (b x : List ℕ) : Type 0 where
   pub alike : Alike b x
   pub dips : (c l s : ℕ) → Reference b c l s → at x (place_of b c l s + 2) ≤ max_dip
-  pub least-end : (c l s : ℕ) → Reference b c l s → min_end ≤ at x (place_of b c l s + 3)
+  pub least_end : (c l s : ℕ) → Reference b c l s → min_end ≤ at x (place_of b c l s + 3)
   pub ends : (c l s : ℕ) → Reference b c l s → at x (place_of b c l s + 3) ≤ max_end
 
 -- the verifier accepts it

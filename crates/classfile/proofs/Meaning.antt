@@ -71,7 +71,7 @@ succeeds a classes room e =
     let h₄ = passes _ 32 _ _ h₃.1 in
     let h₅ = passes _ 33 _ _ h₄.1 in
     record {
-      whole-input = h₀.0;
+      whole_input = h₀.0;
       all_known = λ p l r. off (begins (code_of a) p) (known classes (java_at (code_of a) p)) (none-at (length (code_of a)) (unknown_at classes (code_of a)) h₁.0 p l) (reached-begins (code_of a) p r);
       branches = λ p l r. off (begins (code_of a) p) (branch_ok (code_of a) p (java_at (code_of a) p)) (none-at (length (code_of a)) (stray_at (code_of a)) h₂.0 p l) (reached-begins (code_of a) p r);
       handlers = λ i l. not-false _ (none-at (entries (table_of a)) (stray_entry (code_of a) (table_of a)) h₃.0 i l);
@@ -138,7 +138,7 @@ module _ (a classes : List ℕ) (room : ℕ) where
       go₅ w u s e f true q =
           done
           record {
-            whole-input = w;
+            whole_input = w;
             all_known = λ p l r. off (begins code p) (known classes (java_at code p)) (apart-known classes code p (u p l)) (reached-begins code p r);
             branches = λ p l r. off (begins code p) (branch_ok code p (java_at code p)) (apart-stray code p (s p l)) (reached-begins code p r);
             handlers = λ i l. not-false _ (apart-entry code table i (e i l));

@@ -32,7 +32,7 @@ module _ (classes code table : List ℕ) (room : ℕ) where
     pub stray : s ≡ first_stray code
     pub none : length code ≤ s
     pub entry : e ≡ first_stray_entry code table
-    pub no-entry : entries table ≤ e
+    pub no_entry : entries table ≤ e
 
   pub refused-31 : {u : ℕ} → u ≡ first_unknown classes code → u < length code → taken 31 u ≡ judged classes code table room
   unfolding judged refuse
@@ -57,7 +57,7 @@ module _ (classes code table : List ℕ) (room : ℕ) where
         ← k.stray,
         le-leb (length code) s k.none,
         ← k.entry,
-        le-leb (entries table) e k.no-entry,
+        le-leb (entries table) e k.no_entry,
         ← a,
         lt-leb all 256 l,
         i,
@@ -73,7 +73,7 @@ module _ (classes code table : List ℕ) (room : ℕ) where
         ← k.stray,
         le-leb (length code) s k.none,
         ← k.entry,
-        le-leb (entries table) e k.no-entry,
+        le-leb (entries table) e k.no_entry,
         ← a,
         le-leb all 256 m,
         lt-leb all (room / 4) l,
@@ -89,7 +89,7 @@ module _ (classes code table : List ℕ) (room : ℕ) where
         ← k.stray,
         le-leb (length code) s k.none,
         ← k.entry,
-        le-leb (entries table) e k.no-entry,
+        le-leb (entries table) e k.no_entry,
         ← a,
         le-leb all 256 m,
         le-leb all (room / 4) l,

@@ -17,7 +17,7 @@ pub data Reached (code : List ℕ) : ℕ → Type 0 where
 
 -- nothing to refuse
 pub record Sound (a classes : List ℕ) (room : ℕ) : Type 0 where
-  pub whole-input : whole a ≡ true
+  pub whole_input : whole a ≡ true
   pub all_known : (p : ℕ) → p < length (code_of a) → Reached (code_of a) p → known classes (java_at (code_of a) p) ≡ true
   pub branches : (p : ℕ) → p < length (code_of a) → Reached (code_of a) p → branch_ok (code_of a) p (java_at (code_of a) p) ≡ true
   pub handlers : (i : ℕ) → i < entries (table_of a) → lands (code_of a) (handler_of (table_of a) i) ≡ true

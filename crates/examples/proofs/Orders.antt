@@ -34,7 +34,7 @@ refused-by b e f levels n = go (ℕ_discrete (ordered_verdict_of b levels).numbe
 
 -- an address of a class with so many, in a bundle of so many classes
 within : {n k : ℕ} (b : List ℕ) (c l : ℕ) → (program_of b).classes ≡ n → ((program_of b).method c).code ≡ k → c < n → 1 ≤ l → l ≤ k → Address (program_of b) c l
-within b c l p q x y z = record { class-known = rw p x; first = y; last = rw q z }
+within b c l p q x y z = record { class_known = rw p x; first = y; last = rw q z }
 
 -- main's second monitorenter asks for one order, the worker's for the other
 opposite-refused : Refused opposite

@@ -63,5 +63,5 @@ instruction-is b c n h =
 pub carried : Carried
 carried b c a classes out h =
     record {
-      row_at = λ n l. instruction-is b c n (rw h.length-k l) ∙ ap decoded (h.bytes n l ∙ buffer-has a classes out h.success n l);
+      row_at = λ n l. instruction-is b c n (rw h.length_k l) ∙ ap decoded (h.bytes n l ∙ buffer-has a classes out h.success n l);
     }

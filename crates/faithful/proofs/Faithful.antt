@@ -109,22 +109,22 @@ module _ (b classes code rescue : List ℕ) (c : ℕ) (holds : Holds b c classes
 
   -- what a step keeps: the sizes, and the class that thread i, put back as w, is in
   record Kept (r : State) (w : Thread) : Type 0 where
-    threads-8 : length r.threads ≡ 8
-    counts-256 : length r.counts ≡ 256
-    classes-32 : length r.classes ≡ 32
-    stack-16 : length w.stack ≡ 16
+    threads_8 : length r.threads ≡ 8
+    counts_256 : length r.counts ≡ 256
+    classes_32 : length r.classes ≡ 32
+    stack_16 : length w.stack ≡ 16
     same_class : w.class ≡ t.class
 
   kept : (w : Thread) → length w.stack ≡ 16 → w.class ≡ t.class → Kept s w
   kept w k e =
-      record { threads-8 = S.sized.threads-8; counts-256 = S.sized.counts-256; classes-32 = S.sized.classes-32; stack-16 = k; same_class = e }
+      record { threads_8 = S.sized.threads_8; counts_256 = S.sized.counts_256; classes_32 = S.sized.classes_32; stack_16 = k; same_class = e }
 
   -- thread i put back
   finish : (r : State) (w : Thread) (f : Frame) (q : ℕ) → i < 8 → Kept r w → w.vars ≡ f.vars → top_first w.depth w.stack ≡ f.stack
       → ((o : ℕ) → o < 32 → count_of r.counts i o ≡ f.counts o) → r.objects ≡ f.objects → ((o : ℕ) → o < 32 → class_of r o ≡ f.kinds o)
       → w.at.0 ≡ address_of code q → begins code q ≡ true → Leaves code c i (record { answer = 0; state = with_thread r i w }) (goes q f)
   finish r w f q n h v k d o z g e =
-      let x = put_is r i w (omega (arith, h.threads-8)) in
+      let x = put_is r i w (omega (arith, h.threads_8)) in
       record {
         went = refl;
         values = rw x (record { vars = v; stack = k; counts = d; objects = o; kinds = z });
@@ -135,10 +135,10 @@ module _ (b classes code rescue : List ℕ) (c : ℕ) (holds : Holds b c classes
               begun = e;
               sized =
                   record {
-                    threads-8 = length-set r.threads i w ∙ h.threads-8;
-                    counts-256 = h.counts-256;
-                    classes-32 = h.classes-32;
-                    stack-16 = rw x h.stack-16;
+                    threads_8 = length-set r.threads i w ∙ h.threads_8;
+                    counts_256 = h.counts_256;
+                    classes_32 = h.classes_32;
+                    stack_16 = rw x h.stack_16;
                   };
             };
       }
@@ -148,21 +148,21 @@ module _ (b classes code rescue : List ℕ) (c : ℕ) (holds : Holds b c classes
   behind = begins-next code p S.begun
 
   inside : t.depth < 16 → t.depth < length t.stack
-  inside d = omega (arith, S.sized.stack-16)
+  inside d = omega (arith, S.sized.stack_16)
 
   -- a push of x, with the objects that r has
   pushes : (r : State) (x : Slot) (f : Frame) → i < 8 → Kept r t → t.depth < 16 → t.vars ≡ f.vars → x ∷ top_first t.depth t.stack ≡ f.stack
       → ((o : ℕ) → o < 32 → count_of r.counts i o ≡ f.counts o) → r.objects ≡ f.objects → ((o : ℕ) → o < 32 → class_of r o ≡ f.kinds o)
       → t.at.0 + 1 ≡ address_of code (p + size_at code p) → Leaves code c i (moves.went_on r i t.at (pushed t x)) (goes (p + size_at code p) f)
   pushes r x f n h d v k g o z a =
-      let l : length (set t.stack t.depth x) ≡ 16 = length-set t.stack t.depth x ∙ S.sized.stack-16 in
+      let l : length (set t.stack t.depth x) ≡ 16 = length-set t.stack t.depth x ∙ S.sized.stack_16 in
       rw (pushed-is t x d)
       (finish r (with_at (with_stack t (set t.stack t.depth x) (t.depth + 1)) (t.at.0 + 1)) f (p + size_at code p) n
-      (record { threads-8 = h.threads-8; counts-256 = h.counts-256; classes-32 = h.classes-32; stack-16 = l; same_class = refl }) v
+      (record { threads_8 = h.threads_8; counts_256 = h.counts_256; classes_32 = h.classes_32; stack_16 = l; same_class = refl }) v
       (push-top t.depth t.stack x (inside d) ∙ k) g o z a behind)
 
   as-was : Kept s t
-  as-was = kept t S.sized.stack-16 refl
+  as-was = kept t S.sized.stack_16 refl
 
   -- a stack of which the top is gone
   shorter : (l : List Slot) → length l ≡ 16 → (n d : ℕ) → length (fill_from d n zero_slot l) ≡ 16
@@ -176,13 +176,13 @@ module _ (b classes code rescue : List ℕ) (c : ℕ) (holds : Holds b c classes
   unfolding rows_of line_of find table
   of-push0 x e w =
       one instruction.Push0 Iconst0 x (first Iconst0 e (omega arith)) w
-      (λ k. pushes s zero_slot _ k.number as-was (roomy k.limit k.no-fault) refl refl (λ o n. refl) refl (λ o n. refl) (next-at Iconst0 e))
+      (λ k. pushes s zero_slot _ k.number as-was (roomy k.limit k.no_fault) refl refl (λ o n. refl) refl (λ o n. refl) (next-at Iconst0 e))
 
   of-load : (v : ℕ) (x : Bool) → java_at code p ≡ Load v → (step_of b s i x).answer ≤ 2 → Result (step_of b s i x) (Load v) x
   unfolding rows_of line_of find table
   of-load v x e w =
       one (instruction.Load (var v)) (Load v) x (first (Load v) e (omega arith)) w
-      (λ k. pushes s (var_of t v) _ k.number as-was (roomy k.limit k.no-fault) refl refl (λ o n. refl) refl (λ o n. refl) (next-at (Load v) e))
+      (λ k. pushes s (var_of t v) _ k.number as-was (roomy k.limit k.no_fault) refl refl (λ o n. refl) refl (λ o n. refl) (next-at (Load v) e))
 
   -- the top, where one is asked for
   topped-by : (rest : ℕ) → test (has 1 t) 11 rest ≡ 0 → 1 ≤ t.depth
@@ -192,33 +192,33 @@ module _ (b classes code rescue : List ℕ) (c : ℕ) (holds : Holds b c classes
   unfolding rows_of line_of find table popped stored
   of-store v x e w =
       one (instruction.Store (var v)) (Store v) x (first (Store v) e (omega arith)) w
-      (λ k. let d = topped-by 0 k.no-fault in
-      finish s (with_at (popped 1 (stored t v (threads.top_of t))) (t.at.0 + 1)) _ (p + size_at code p) k.number (kept _ (shorter t.stack S.sized.stack-16 1 (t.depth - 1)) refl)
+      (λ k. let d = topped-by 0 k.no_fault in
+      finish s (with_at (popped 1 (stored t v (threads.top_of t))) (t.at.0 + 1)) _ (p + size_at code p) k.number (kept _ (shorter t.stack S.sized.stack_16 1 (t.depth - 1)) refl)
       (ap (set t.vars v) (top-of t.depth t.stack d)) (rest-of t.depth t.stack d) (λ o n. refl) refl (λ o n. refl) (next-at (Store v) e) behind)
 
   of-pop : (x : Bool) → java_at code p ≡ Pop → (step_of b s i x).answer ≤ 2 → Result (step_of b s i x) Pop x
   unfolding rows_of line_of find table popped
   of-pop x e w =
       one instruction.Pop Pop x (first Pop e (omega arith)) w
-      (λ k. let d = topped-by 0 k.no-fault in
-      finish s (with_at (popped 1 t) (t.at.0 + 1)) _ (p + size_at code p) k.number (kept _ (shorter t.stack S.sized.stack-16 1 (t.depth - 1)) refl)
+      (λ k. let d = topped-by 0 k.no_fault in
+      finish s (with_at (popped 1 t) (t.at.0 + 1)) _ (p + size_at code p) k.number (kept _ (shorter t.stack S.sized.stack_16 1 (t.depth - 1)) refl)
       refl (rest-of t.depth t.stack d) (λ o n. refl) refl (λ o n. refl) (next-at Pop e) behind)
 
   of-if : (d : ℕ) (x : Bool) → java_at code p ≡ Ifne d → (step_of b s i x).answer ≤ 2 → Result (step_of b s i x) (Ifne d) x
   unfolding rows_of line_of find table popped
   of-if d x e w =
       one (instruction.If (addr (address_of code (target_of code p d)))) (Ifne d) x (first (Ifne d) e (omega arith)) w
-      (λ k. let n = topped-by _ k.no-fault in
+      (λ k. let n = topped-by _ k.no_fault in
       rw (top-of t.depth t.stack n) (either k.number n (jumps (top_of (top_first t.depth t.stack)))))
     where
       either : i < 8 → 1 ≤ t.depth → (j : Bool)
           → Leaves code c i (cond j (moves.went_to s i (popped 1 t) (address_of code (target_of code p d))) (moves.went_on s i t.at (popped 1 t)))
           (goes (cond j (target_of code p d) (p + size_at code p)) (pop (seen s i)))
       either k n true =
-          finish s (with_at (popped 1 t) (address_of code (target_of code p d))) _ (target_of code p d) k (kept _ (shorter t.stack S.sized.stack-16 1 (t.depth - 1)) refl)
+          finish s (with_at (popped 1 t) (address_of code (target_of code p d))) _ (target_of code p d) k (kept _ (shorter t.stack S.sized.stack_16 1 (t.depth - 1)) refl)
           refl (rest-of t.depth t.stack n) (λ o q. refl) refl (λ o q. refl) refl (landing.branch p d within S.begun e)
       either k n false =
-          finish s (with_at (popped 1 t) (t.at.0 + 1)) _ (p + size_at code p) k (kept _ (shorter t.stack S.sized.stack-16 1 (t.depth - 1)) refl)
+          finish s (with_at (popped 1 t) (t.at.0 + 1)) _ (p + size_at code p) k (kept _ (shorter t.stack S.sized.stack_16 1 (t.depth - 1)) refl)
           refl (rest-of t.depth t.stack n) (λ o q. refl) refl (λ o q. refl) (next-at (Ifne d) e) behind
 
   -- ---- what is thrown finds the handler, or none
@@ -231,8 +231,8 @@ module _ (b classes code rescue : List ℕ) (c : ℕ) (holds : Holds b c classes
       go true h =
           rw (ne_eqb (count_to code (handler_of rescue (covered_by rescue offset)) + 1) 0 (λ e. omega arith), caught-is t x)
           (finish s (with_at (with_stack t (set (fill_from 0 t.depth zero_slot t.stack) 0 x) 1) (address_of code (handler_of rescue (covered_by rescue offset)))) (alone x (seen s i)) (handler_of rescue (covered_by rescue offset)) n
-          (kept _ (length-set (fill_from 0 t.depth zero_slot t.stack) 0 x ∙ shorter t.stack S.sized.stack-16 t.depth 0) refl) refl
-          (caught-alone t.depth t.stack x S.sized.stack-16) (λ o q. refl) refl (λ o q. refl) refl
+          (kept _ (length-set (fill_from 0 t.depth zero_slot t.stack) 0 x ∙ shorter t.stack S.sized.stack_16 t.depth 0) refl) refl
+          (caught-alone t.depth t.stack x S.sized.stack_16) (λ o q. refl) refl (λ o q. refl) refl
           (landing.handler (covered_by rescue offset) (ltb-true (covered_by rescue offset) (entries rescue) h)))
       go false h = refl
 
@@ -240,7 +240,7 @@ module _ (b classes code rescue : List ℕ) (c : ℕ) (holds : Holds b c classes
   unfolding rows_of line_of find table
   of-throw x e w =
       one (instruction.Throw (addr (handler_for code rescue p))) Athrow x (first Athrow e (omega arith)) w
-      (λ k. let n = topped-by _ k.no-fault in
+      (λ k. let n = topped-by _ k.no_fault in
       subst (λ (y : Slot). Leaves code c i (moves.throw_move s i t m.vars (addr (handler_for code rescue p)) (threads.top_of t)) (throws rescue p y (seen s i)))
       (top-of t.depth t.stack n) (throw-leaves p (threads.top_of t) k.number))
 
@@ -254,7 +254,7 @@ module _ (b classes code rescue : List ℕ) (c : ℕ) (holds : Holds b c classes
     where
       go : Dec (q ≡ o) → count_of (set s.counts (i * 32 + o) n) i q ≡ changed (count_of s.counts i) o n q
       go (yes d) =
-          let f : i * 32 + o < length s.counts = omega (arith, S.sized.counts-256) in
+          let f : i * 32 + o < length s.counts = omega (arith, S.sized.counts_256) in
           rw (eq-eqb q o d, d) (get_or-set_same s.counts (i * 32 + o) n 0 f)
       go (no d) = rw (ne_eqb q o d) (get_or-set_other s.counts (i * 32 + o) (i * 32 + q) n 0 (λ x. d (omega arith)))
 
@@ -262,10 +262,10 @@ module _ (b classes code rescue : List ℕ) (c : ℕ) (holds : Holds b c classes
   counted-kept : (o n a : ℕ) → Kept (with_count s i o n) (with_at t a)
   counted-kept o n a =
       record {
-        threads-8 = S.sized.threads-8;
-        counts-256 = length-set s.counts (i * 32 + o) n ∙ S.sized.counts-256;
-        classes-32 = S.sized.classes-32;
-        stack-16 = S.sized.stack-16;
+        threads_8 = S.sized.threads_8;
+        counts_256 = length-set s.counts (i * 32 + o) n ∙ S.sized.counts_256;
+        classes_32 = S.sized.classes_32;
+        stack_16 = S.sized.stack_16;
         same_class = refl;
       }
 
@@ -301,7 +301,7 @@ module _ (b classes code rescue : List ℕ) (c : ℕ) (holds : Holds b c classes
     where
       go : Dec (q ≡ s.objects) → get_or (set s.classes s.objects d) q 0 ≡ changed (class_of s) s.objects d q
       go (yes e) =
-          rw (eq-eqb q s.objects e, e) (get_or-set_same s.classes s.objects d 0 (omega (arith, S.sized.classes-32)))
+          rw (eq-eqb q s.objects e, e) (get_or-set_same s.classes s.objects d 0 (omega (arith, S.sized.classes_32)))
       go (no e) = rw (ne_eqb q s.objects e) (get_or-set_other s.classes s.objects q d 0 (λ x. e (omega arith)))
 
   object-is : s.objects < 32 → (d : ℕ) (fields : List Slot)
@@ -311,10 +311,10 @@ module _ (b classes code rescue : List ℕ) (c : ℕ) (holds : Holds b c classes
   object-is h d fields =
       rw (lt-ltb s.objects 32 h) (
         record {
-          threads-8 = S.sized.threads-8;
-          counts-256 = S.sized.counts-256;
-          classes-32 = length-set s.classes s.objects d ∙ S.sized.classes-32;
-          stack-16 = S.sized.stack-16;
+          threads_8 = S.sized.threads_8;
+          counts_256 = S.sized.counts_256;
+          classes_32 = length-set s.classes s.objects d ∙ S.sized.classes_32;
+          stack_16 = S.sized.stack_16;
           same_class = refl;
         },
         refl,
@@ -326,7 +326,7 @@ module _ (b classes code rescue : List ℕ) (c : ℕ) (holds : Holds b c classes
   unfolding rows_of line_of find table
   of-new d x e w =
       one (instruction.New (class_number classes d) (addr (handler_for code rescue p))) (New d) x (first (New d) e (omega arith)) w
-      (λ k. go k.number k.limit (new_fails s x) refl k.no-fault)
+      (λ k. go k.number k.limit (new_fails s x) refl k.no_fault)
     where
       go : i < 8 → m.limit ≤ 16 → (j : Bool) → new_fails s x ≡ j → cond j (throw_fault s.counts i m.limit (addr (handler_for code rescue p))) (push_fault t m.limit) ≡ 0
           → Leaves code c i (cond j (moves.fail_move s i t m.vars (addr (handler_for code rescue p))) (moves.make_move (program_of b) s i t (class_number classes d)))
@@ -388,7 +388,7 @@ module _ (b classes code rescue : List ℕ) (c : ℕ) (holds : Holds b c classes
 
   stored-size : (v : ℕ) → length (fill_from (t.depth + 1 - 1) 1 zero_slot (raised v).stack) ≡ 16
   stored-size v =
-      shorter (raised v).stack (length-set (loaded v).stack (t.depth + 1 - 1) _ ∙ length-set t.stack t.depth (var_of t v) ∙ S.sized.stack-16) 1 (t.depth + 1 - 1)
+      shorter (raised v).stack (length-set (loaded v).stack (t.depth + 1 - 1) _ ∙ length-set t.stack t.depth (var_of t v) ∙ S.sized.stack_16) 1 (t.depth + 1 - 1)
 
   -- the state that each step leaves
   abbrev went : State → Stepped
@@ -399,14 +399,14 @@ module _ (b classes code rescue : List ℕ) (c : ℕ) (holds : Holds b c classes
   unfolding rows_of line_of find table
   to-loaded v x e w =
       let k = step-moves b s i x t (instruction.Load (var v)) refl (first (Iinc v) e (omega arith)) w in
-      let d = roomy k.limit k.no-fault in
+      let d = roomy k.limit k.no_fault in
       (k.number, d, k.is ∙ ap (λ (y : Thread). went (with_thread s i (with_at y (t.at.0 + 1)))) (pushed-is t (var_of t v) d))
 
   to-raised : (v : ℕ) (x : Bool) → java_at code p ≡ Iinc v → i < 8 → (step_of b (with_thread s i (loaded v)) i x).answer ≤ 2
       → step_of b (with_thread s i (loaded v)) i x ≡ went (with_thread s i (raised v))
   unfolding rows_of line_of find table topped
   to-raised v x e n w =
-      let k = step-moves b (with_thread s i (loaded v)) i x (loaded v) instruction.Inc (put_is s i (loaded v) (omega (arith, S.sized.threads-8))) (written (Iinc v) e 1 (omega arith)) w in
+      let k = step-moves b (with_thread s i (loaded v)) i x (loaded v) instruction.Inc (put_is s i (loaded v) (omega (arith, S.sized.threads_8))) (written (Iinc v) e 1 (omega arith)) w in
       k.is ∙ ap went (put-put (loaded v) (raised v))
 
   to-stored : (v : ℕ) (x : Bool) → java_at code p ≡ Iinc v → i < 8 → (step_of b (with_thread s i (raised v)) i x).answer ≤ 2
@@ -414,7 +414,7 @@ module _ (b classes code rescue : List ℕ) (c : ℕ) (holds : Holds b c classes
   unfolding rows_of line_of find table
   to-stored v x e n w =
       let f : t.at.0 + 1 + 1 ≡ t.at.0 + 2 = omega arith in
-      let k = step-moves b (with_thread s i (raised v)) i x (raised v) (instruction.Store (var v)) (put_is s i (raised v) (omega (arith, S.sized.threads-8)))
+      let k = step-moves b (with_thread s i (raised v)) i x (raised v) (instruction.Store (var v)) (put_is s i (raised v) (omega (arith, S.sized.threads_8)))
       (ap m.instruction f ∙ written (Iinc v) e 2 (omega arith)) w in
       k.is ∙ ap went (put-put (raised v) _)
 
@@ -441,15 +441,15 @@ module _ (b classes code rescue : List ℕ) (c : ℕ) (holds : Holds b c classes
       let e₁ : step_of b s i x ≡ went (with_thread s i (loaded v))
       = step-goes b s i x t (instruction.Load (var v)) r o n refl live (first (Iinc v) e (omega arith)) (rw (lt-ltb t.depth m.limit h)) refl
       ∙ ap (λ (w : Thread). went (with_thread s i (with_at w (t.at.0 + 1)))) (pushed-is t (var_of t v) d) in
-      let b₁ = step-belongs b s i x (record { counts-256 = S.sized.counts-256; held-8 = held }) o in
+      let b₁ = step-belongs b s i x (record { counts_256 = S.sized.counts_256; held_8 = held }) o in
       let o₁ : state_ok (program_of b) (with_thread s i (loaded v)) ≡ true = sym (ap (λ (w : Stepped). state_ok (program_of b) w.state) e₁) ∙ b₁.0 in
-      let k₁ = put_is s i (loaded v) (omega (arith, S.sized.threads-8)) in
+      let k₁ = put_is s i (loaded v) (omega (arith, S.sized.threads_8)) in
       let e₂ : step_of b (with_thread s i (loaded v)) i y ≡ went (with_thread s i (raised v))
       = step-goes b (with_thread s i (loaded v)) i y (loaded v) instruction.Inc r o₁ n k₁ live (written (Iinc v) e 1 (omega arith))
       (rw (le-leb 1 (t.depth + 1) (omega arith), loaded-top v d, int)) refl ∙ ap went (put-put (loaded v) (raised v)) in
-      let b₂ = step-belongs b (with_thread s i (loaded v)) i y (record { counts-256 = S.sized.counts-256; held-8 = held }) o₁ in
+      let b₂ = step-belongs b (with_thread s i (loaded v)) i y (record { counts_256 = S.sized.counts_256; held_8 = held }) o₁ in
       let o₂ : state_ok (program_of b) (with_thread s i (raised v)) ≡ true = sym (ap (λ (w : Stepped). state_ok (program_of b) w.state) e₂) ∙ b₂.0 in
-      let k₂ = put_is s i (raised v) (omega (arith, S.sized.threads-8)) in
+      let k₂ = put_is s i (raised v) (omega (arith, S.sized.threads_8)) in
       let f : t.at.0 + 1 + 1 ≡ t.at.0 + 2 = omega arith in
       let e₃ = step-goes b (with_thread s i (raised v)) i z (raised v) (instruction.Store (var v)) r o₂ n k₂ live (ap m.instruction f ∙ written (Iinc v) e 2 (omega arith))
       (rw (le-leb 1 (t.depth + 1) (omega arith))) refl in
@@ -512,4 +512,4 @@ faithful a classes out b c h s i p fails S l g w =
 pub iinc-goes : IincGoes
 iinc-goes a classes out b c h s i p v x y z S l words e r o n live d int =
     let k : (thread_at s i).depth < ((program_of b).method (thread_at s i).class).limit = rw S.class d in
-    iinc-through b classes (code_of a) (table_of a) c (carried b c a classes out h) (landing-of a classes (length out) h.success) s i p S l v x y z e words r o n live k ((formed b r).limit-16 _ ((belongs-elim (program_of b) s o).live-placed i n live).class-known) int
+    iinc-through b classes (code_of a) (table_of a) c (carried b c a classes out h) (landing-of a classes (length out) h.success) s i p S l v x y z e words r o n live k ((formed b r).limit_16 _ ((belongs-elim (program_of b) s o).live_placed i n live).class_known) int

@@ -33,7 +33,7 @@ passed false n rest e = absurd (omega arith)
 pub record Moved (b : List ℕ) (s : State) (i : ℕ) (t : Thread) (fails : Bool) (x : Instruction) : Type 0 where
   pub number : i < 8
   pub limit : ((program_of b).method t.class).limit ≤ 16
-  pub no-fault : fault_of (program_of b) s i t ((program_of b).method t.class) fails x ≡ 0
+  pub no_fault : fault_of (program_of b) s i t ((program_of b).method t.class) fails x ≡ 0
   pub is : step_of b s i fails ≡ move_of (program_of b) s i t ((program_of b).method t.class) fails x
 
 module _ (b : List ℕ) (s : State) (i : ℕ) (fails : Bool) where
@@ -44,18 +44,18 @@ module _ (b : List ℕ) (s : State) (i : ℕ) (fails : Bool) where
   known = step_by Known b s i fails (λ n l. record { moved = λ h. absurd (omega arith) }) (λ m. record { moved = λ h. (m, refl) })
 
   limited : Moving b s i fails → (method_here b s i).limit ≤ 16
-  limited m = m.formed.limit-16 (thread_at s i).class (m.belongs.live-placed i m.thread-8 m.live).class-known
+  limited m = m.formed.limit_16 (thread_at s i).class (m.belongs.live_placed i m.thread_8 m.live).class_known
 
   pub step-moves : (t : Thread) (x : Instruction) → thread_at s i ≡ t → ((program_of b).method t.class).instruction t.at.0 ≡ x → (step_of b s i fails).answer ≤ 2
       → Moved b s i t fails x
   step-moves t x d e h =
       let k = known.moved h in
       record {
-        number = k.0.thread-8;
+        number = k.0.thread_8;
         limit = subst (λ (u : Thread). ((program_of b).method u.class).limit ≤ 16) d (limited k.0);
-        no-fault =
+        no_fault =
             subst (λ (y : Instruction). fault_of (program_of b) s i t ((program_of b).method t.class) fails y ≡ 0) e
-            (subst (λ (u : Thread). fault_of (program_of b) s i u ((program_of b).method u.class) fails (((program_of b).method u.class).instruction u.at.0) ≡ 0) d k.0.no-fault);
+            (subst (λ (u : Thread). fault_of (program_of b) s i u ((program_of b).method u.class) fails (((program_of b).method u.class).instruction u.at.0) ≡ 0) d k.0.no_fault);
         is =
             subst (λ (y : Instruction). step_of b s i fails ≡ move_of (program_of b) s i t ((program_of b).method t.class) fails y) e
             (subst (λ (u : Thread). step_of b s i fails ≡ move_of (program_of b) s i u ((program_of b).method u.class) fails (((program_of b).method u.class).instruction u.at.0)) d k.1);

@@ -56,19 +56,19 @@ pub witness : Witness
 unfolding worked
 witness =
     record {
-      taken-9 = refl;
-      carries = record { success = refl; length-k = refl; bytes = bytes };
-      at_first = record { class = refl; address = refl; begun = refl; sized = record { threads-8 = refl; counts-256 = refl; classes-32 = refl; stack-16 = refl } };
-      told-going = (omega arith, refl, (omega arith, refl, (omega arith, refl, (omega arith, refl, (omega arith, refl, tt)))));
-      read-going = (refl, refl, refl, refl, refl, refl);
-      written-going = (refl, refl, refl, refl, refl, refl, refl);
-      told-whole = (omega arith, refl, (omega arith, refl, (omega arith, refl, (omega arith, refl, (omega arith, refl, (omega arith, refl, (omega arith, refl, tt)))))));
-      read-returns = refl;
+      taken_9 = refl;
+      carries = record { success = refl; length_k = refl; bytes = bytes };
+      at_first = record { class = refl; address = refl; begun = refl; sized = record { threads_8 = refl; counts_256 = refl; classes_32 = refl; stack_16 = refl } };
+      told_going = (omega arith, refl, (omega arith, refl, (omega arith, refl, (omega arith, refl, (omega arith, refl, tt)))));
+      read_going = (refl, refl, refl, refl, refl, refl);
+      written_going = (refl, refl, refl, refl, refl, refl, refl);
+      told_whole = (omega arith, refl, (omega arith, refl, (omega arith, refl, (omega arith, refl, (omega arith, refl, (omega arith, refl, (omega arith, refl, tt)))))));
+      read_returns = refl;
       ended = refl;
-      told-caught = (omega arith, refl, tt);
-      read-caught = (refl, refl);
-      written-caught = (refl, refl, refl);
-      told-thrown = (omega arith, refl, (omega arith, refl, tt));
-      read-thrown = refl;
-      ended-uncaught = refl;
+      told_caught = (omega arith, refl, tt);
+      read_caught = (refl, refl);
+      written_caught = (refl, refl, refl);
+      told_thrown = (omega arith, refl, (omega arith, refl, tt));
+      read_thrown = refl;
+      ended_uncaught = refl;
     }

@@ -27,7 +27,7 @@ pub record Holds (b : List ℕ) (c : ℕ) (classes code table : List ℕ) : Type
 -- .. which is so where its record has, behind its descriptors, what `take` wrote into a buffer
 pub record Carries (b : List ℕ) (c : ℕ) (a classes out : List ℕ) : Type 0 where
   pub success : (taken_of a classes (length out)).number ≡ 0
-  pub length-k : (class_at b c).code ≡ total (code_of a)
+  pub length_k : (class_at b c).code ≡ total (code_of a)
   pub bytes : (n : ℕ) → n < total (code_of a)
       → code_from (part_of b (class_at b c)) (descriptor_count (class_at b c) + 4 * n) ≡ code_from (out_of a classes out) (4 * n)
 
@@ -54,10 +54,10 @@ pub record Agree (f g : Frame) : Type 0 where
 
 -- what every state has, whose arrays are of document 01's sizes
 pub record Sized (s : State) (i : ℕ) : Type 0 where
-  pub threads-8 : length s.threads ≡ 8
-  pub counts-256 : length s.counts ≡ 256
-  pub classes-32 : length s.classes ≡ 32
-  pub stack-16 : length (thread_at s i).stack ≡ 16
+  pub threads_8 : length s.threads ≡ 8
+  pub counts_256 : length s.counts ≡ 256
+  pub classes_32 : length s.classes ≡ 32
+  pub stack_16 : length (thread_at s i).stack ≡ 16
 
 -- thread i is in class c, at the address of offset q, where an instruction begins or the code ends
 pub record At (code : List ℕ) (c : ℕ) (s : State) (i q : ℕ) : Type 0 where

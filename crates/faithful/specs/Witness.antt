@@ -88,23 +88,23 @@ kind_at o uncaught = 0
 
 pub record Witness : Type 0 where
   -- nine instructions are taken, a class has them, and thread 0 of the fresh machine is at the first
-  pub taken-9 : taken_of attribute list (length buffer) ≡ taken 0 9
+  pub taken_9 : taken_of attribute list (length buffer) ≡ taken 0 9
   pub carries : Carries bundle 0 attribute list buffer
   pub at_first : At (code_of attribute) 0 start 0 0
   -- the method goes on behind the nop: the lock is held once, variable 1 is 1
-  pub told-going : Given going
-  pub read-going : (offset_of (left going) ≡ 10) × (var_at 0 (left going) ≡ ref_slot 1) × (var_at 1 (left going) ≡ int_slot 1) × (stack_of (left going) ≡ []) × (count_at 1 (left going) ≡ 1) × (kind_at 1 (left going) ≡ 0)
-  pub written-going : ((runs bundle 0 going start).answer ≡ 0) × ((thread_at (ran going) 0).at.0 ≡ 7) × (get_or (thread_at (ran going) 0).vars 0 zero_slot ≡ ref_slot 1) × (get_or (thread_at (ran going) 0).vars 1 zero_slot ≡ int_slot 1)
+  pub told_going : Given going
+  pub read_going : (offset_of (left going) ≡ 10) × (var_at 0 (left going) ≡ ref_slot 1) × (var_at 1 (left going) ≡ int_slot 1) × (stack_of (left going) ≡ []) × (count_at 1 (left going) ≡ 1) × (kind_at 1 (left going) ≡ 0)
+  pub written_going : ((runs bundle 0 going start).answer ≡ 0) × ((thread_at (ran going) 0).at.0 ≡ 7) × (get_or (thread_at (ran going) 0).vars 0 zero_slot ≡ ref_slot 1) × (get_or (thread_at (ran going) 0).vars 1 zero_slot ≡ int_slot 1)
       × ((thread_at (ran going) 0).depth ≡ 0) × (count_of (ran going).counts 0 1 ≡ 1) × (class_of (ran going) 1 ≡ 0)
   -- .. and returns
-  pub told-whole : Given whole
-  pub read-returns : left whole ≡ returned
+  pub told_whole : Given whole
+  pub read_returns : left whole ≡ returned
   pub ended : (runs bundle 0 whole start).answer ≡ 1
   -- a failed allocation is caught at 13, with object 0 alone on the stack
-  pub told-caught : Given caught
-  pub read-caught : (offset_of (left caught) ≡ 13) × (stack_of (left caught) ≡ ref_slot 0 ∷ [])
-  pub written-caught : ((runs bundle 0 caught start).answer ≡ 0) × ((thread_at (ran caught) 0).at.0 ≡ 9) × ((thread_at (ran caught) 0).depth ≡ 1)
+  pub told_caught : Given caught
+  pub read_caught : (offset_of (left caught) ≡ 13) × (stack_of (left caught) ≡ ref_slot 0 ∷ [])
+  pub written_caught : ((runs bundle 0 caught start).answer ≡ 0) × ((thread_at (ran caught) 0).at.0 ≡ 9) × ((thread_at (ran caught) 0).depth ≡ 1)
   -- .. and thrown again, where no entry covers
-  pub told-thrown : Given thrown
-  pub read-thrown : left thrown ≡ uncaught
-  pub ended-uncaught : (runs bundle 0 thrown start).answer ≡ 2
+  pub told_thrown : Given thrown
+  pub read_thrown : left thrown ≡ uncaught
+  pub ended_uncaught : (runs bundle 0 thrown start).answer ≡ 2

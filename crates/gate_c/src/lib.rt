@@ -1,7 +1,6 @@
 // The weaver's gate for C: its one call, under its C name.
 #![tactic(auto)]
 
-ghost use Rattle.std.specs.Prelude.{length};
 ghost use Rattle.laying.specs.Given.{given};
 ghost use Rattle.gate.specs.Gate.{Gives};
 

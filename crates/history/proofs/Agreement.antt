@@ -39,9 +39,9 @@ at_first : (s : State) → s.threads ≡ set (replicate 8 idle) 0 main_thread �
 unfolding live_after since_start number
 at_first s e c =
     record {
-      threads-8 = rw e;
-      counts-256 = rw c;
-      live-8 = refl;
+      threads_8 = rw e;
+      counts_256 = rw c;
+      live_8 = refl;
       lives = λ t l. rw e (both-written (replicate 8 false) (replicate 8 idle) 0 true main_thread refl refl refl (omega arith) none-live t l);
       counted = λ t o l k. rw (c, no-count t o l k);
     }
@@ -81,8 +81,8 @@ module _ (b : List ℕ) (r : readable b ≡ true) (xs : List Step) where
   -- a number above 7 is never live, by the history or in the state
   past-eight : (t : ℕ) → 8 ≤ t → (live_by (history b xs) t ≡ false) × (is_live b xs t ≡ false)
   past-eight t l = (
-    get_or-eq_default (live_after (past_of b xs)) false {n = t} (omega (arith, told.live-8)),
-    ap (λ (u : Thread). u.live) (get_or-eq_default (reached b xs).threads idle {n = t} (omega (arith, told.threads-8))),
+    get_or-eq_default (live_after (past_of b xs)) false {n = t} (omega (arith, told.live_8)),
+    ap (λ (u : Thread). u.live) (get_or-eq_default (reached b xs).threads idle {n = t} (omega (arith, told.threads_8))),
   )
 
   live-agrees : (t : ℕ) → live_by (history b xs) t ≡ is_live b xs t
@@ -114,7 +114,7 @@ module _ (b : List ℕ) (r : readable b ≡ true) (xs : List Step) (x : Step) (s
   live-grows a =
       rw more
       (one_more such t (past_of b xs) (event_of b (reached b xs) x)
-      (begins-no-live (past_of b xs) (event_of b (reached b xs) x) t (told b r xs).live-8 (live-agrees b r xs t ∙ a)))
+      (begins-no-live (past_of b xs) (event_of b (reached b xs) x) t (told b r xs).live_8 (live-agrees b r xs t ∙ a)))
 
 none_yet : (b : List ℕ) (such : Event → Bool) (t : ℕ) → number such (since_start t (past_of b [])) ≡ 0
 unfolding history_from since_start number
@@ -128,9 +128,9 @@ counts-agree-unchecked b r =
       never_less = λ xs t o a k. omega (arith, count-agrees b r xs t o a k);
       count = λ xs t o a k. omega (arith, count-agrees b r xs t o a k);
       at_first = λ t o. (none_yet b (enters o) t, none_yet b (exits o) t);
-      at-start = λ xs x t o old new. (started_none b r xs x (enters o) t old new, started_none b r xs x (exits o) t old new);
-      enters-grow = λ xs x t o a. live-grows b r xs x (enters o) t a;
-      exits-grow = λ xs x t o a. live-grows b r xs x (exits o) t a;
+      at_start = λ xs x t o old new. (started_none b r xs x (enters o) t old new, started_none b r xs x (exits o) t old new);
+      enters_grow = λ xs x t o a. live-grows b r xs x (enters o) t a;
+      exits_grow = λ xs x t o a. live-grows b r xs x (exits o) t a;
     }
 
 -- COROLLARY, Q-2: verdict 0 is used here, and says no more than that the bundle can be run

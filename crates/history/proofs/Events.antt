@@ -21,12 +21,12 @@ use Rattle.history.specs.History.{event}
 -- it starts no thread, and counts for no object
 pub record Quiet (e : Event) : Type 0 where
   pub no_start : starts e ≡ false
-  pub no-enter : (o : ℕ) → enters o e ≡ false
-  pub no-exit : (o : ℕ) → exits o e ≡ false
+  pub no_enter : (o : ℕ) → enters o e ≡ false
+  pub no_exit : (o : ℕ) → exits o e ≡ false
 
 pub not-zero : (e : Event) → eqb e.answer 0 ≡ false → Quiet e
 unfolding starts enters exits
-not-zero e z = record { no_start = rw z; no-enter = λ o. rw z; no-exit = λ o. rw z }
+not-zero e z = record { no_start = rw z; no_enter = λ o. rw z; no_exit = λ o. rw z }
 
 -- the opcode is a monitorenter's, a monitorexit's or a start's
 abbrev pub speaks : ℕ → Bool
@@ -38,8 +38,8 @@ other e n w p =
     let q = or-false-fst (eqb n 7 || eqb n 8) _ p in
     record {
       no_start = rw (w, or-false-snd (eqb n 7 || eqb n 8) _ p) (and-false (eqb e.answer 0));
-      no-enter = λ o. rw (w, or-false-fst (eqb n 7) _ q, and-false (eqb e.answer 0));
-      no-exit = λ o. rw (w, or-false-snd (eqb n 7) _ q, and-false (eqb e.answer 0));
+      no_enter = λ o. rw (w, or-false-fst (eqb n 7) _ q, and-false (eqb e.answer 0));
+      no_exit = λ o. rw (w, or-false-snd (eqb n 7) _ q, and-false (eqb e.answer 0));
     }
 
 pub no_end : (e : Event) → eqb e.answer 1 ≡ false → eqb e.answer 2 ≡ false → ends e ≡ false
@@ -76,8 +76,8 @@ module _ (i : ℕ) (t : Thread) (y : Code) where
   null-quiet w f =
       record {
         no_start = rw w;
-        no-enter = λ o. rw (w, null-in (var_of t y.operand) f);
-        no-exit = λ o. rw w;
+        no_enter = λ o. rw (w, null-in (var_of t y.operand) f);
+        no_exit = λ o. rw w;
       }
 
   pub enter-says : y.opcode ≡ 7 → is_ref (var_of t y.operand) ≡ true → (o : ℕ)

@@ -66,5 +66,5 @@ pub free-holds-nothing : (P : Program) (s : State) → Belongs P s → lowest_fr
 free-holds-nothing P s g l o k = go (dec_lt 0 (count_of s.counts (lowest_free s) o))
   where
     go : Dec (0 < count_of s.counts (lowest_free s) o) → count_of s.counts (lowest_free s) o ≡ 0
-    go (yes q) = never ((g.counted (lowest_free s) o l k).by-live q) (free-idle s l)
+    go (yes q) = never ((g.counted (lowest_free s) o l k).by_live q) (free-idle s l)
     go (no q) = omega arith

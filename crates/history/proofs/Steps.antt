@@ -68,8 +68,8 @@ module _ (past : List Event) (s : State) (h : Told past s) (i : ℕ) (t : Thread
   gave-back n l =
       let q = not-zero (ev n) (ne_eqb n 0 (λ z. omega arith)) in
       record {
-        tells = goes past s h (ev n) s q.no_start (no_end (ev n) (ne_eqb n 1 (λ z. omega arith)) (ne_eqb n 2 (λ z. omega arith))) h.threads-8 h.counts-256 (λ j k. refl)
-            (λ j o k m. rw (q.no-enter o, q.no-exit o));
+        tells = goes past s h (ev n) s q.no_start (no_end (ev n) (ne_eqb n 1 (λ z. omega arith)) (ne_eqb n 2 (λ z. omega arith))) h.threads_8 h.counts_256 (λ j k. refl)
+            (λ j o k m. rw (q.no_enter o, q.no_exit o));
       }
 
   -- it is live
@@ -83,9 +83,9 @@ module _ (past : List Event) (s : State) (h : Told past s) (i : ℕ) (t : Thread
     on q s' f g u d a =
         record {
           tells = goes past s h (ev 0) (with_thread s' i (with_at u a)) q.no_start (no_end (ev 0) refl refl)
-              (rw (f, length-set s.threads i (with_at u a)) h.threads-8) (rw g h.counts-256)
+              (rw (f, length-set s.threads i (with_at u a)) h.threads_8) (rw g h.counts_256)
               (λ j k. rw f (lives-on (with_at u a) d j))
-              (λ j o k m. rw (q.no-enter o, q.no-exit o, g));
+              (λ j o k m. rw (q.no_enter o, q.no_exit o, g));
         }
 
     pop-tells : Quiet (ev 0) → (n a : ℕ) → Tells (went_to s i (popped n t) a)
@@ -105,7 +105,7 @@ module _ (past : List Event) (s : State) (h : Told past s) (i : ℕ) (t : Thread
         let q = not-zero (ev n) (ne_eqb n 0 (λ z. ⊎_elim (λ w. omega arith) (λ w. omega arith) k)) in
         record {
           tells = told-ended past s h (ev n) i (ended vars t) (with_thread s i (ended vars t)) refl li q.no_start (some_end (ev n) k)
-              q.no-enter q.no-exit (ended-live vars t) refl refl;
+              q.no_enter q.no_exit (ended-live vars t) refl refl;
         }
 
     throw-tells : Quiet (ev 0) → (vars : ℕ) (a : Addr) (x : Slot) → Tells (throw_move s i t vars a x)
@@ -139,26 +139,26 @@ module _ (past : List Event) (s : State) (h : Told past s) (i : ℕ) (t : Thread
       n = count_of s.counts i (lock_of t (var y.operand))
 
       known : is_ref (var_of t y.operand) ≡ true → o < 32
-      known e = omega (arith, refers-object s.objects (var_of t y.operand) (p.variable-refers y.operand lv) e, g.objects-32)
+      known e = omega (arith, refers-object s.objects (var_of t y.operand) (p.variable_refers y.operand lv) e, g.objects_32)
 
       -- a count of thread i moved, and the event says so
       moved : (m : ℕ) → starts (ev 0) ≡ false → Balanced (ev 0) s.counts (set s.counts (i * 32 + o) m) → Tells (counted s i t o m)
       moved m f b =
           record {
             tells = goes past s h (ev 0) (with_thread (with_count s i o m) i (with_at t (t.at.0 + 1))) f (no_end (ev 0) refl refl)
-                (rw (length-set s.threads i (with_at t (t.at.0 + 1))) h.threads-8) (rw (length-set s.counts (i * 32 + o) m) h.counts-256)
+                (rw (length-set s.threads i (with_at t (t.at.0 + 1))) h.threads_8) (rw (length-set s.counts (i * 32 + o) m) h.counts_256)
                 (λ j k. lives-on (with_at t (t.at.0 + 1)) lt j) b;
           }
 
       entered : y.opcode ≡ 7 → is_ref (var_of t y.operand) ≡ true → Balanced (ev 0) s.counts (set s.counts (i * 32 + o) (n + 1))
       entered w e j q l k =
           let f = enter-says i t y w e q in
-          rw (f.1, f.2, and-false (eqb i j)) (count-entered s.counts h.counts-256 i o li (known e) j q l k)
+          rw (f.1, f.2, and-false (eqb i j)) (count-entered s.counts h.counts_256 i o li (known e) j q l k)
 
       exited : y.opcode ≡ 8 → is_ref (var_of t y.operand) ≡ true → 0 < n → Balanced (ev 0) s.counts (set s.counts (i * 32 + o) (n - 1))
       exited w e z j q l k =
           let f = exit-says i t y w e q in
-          rw (f.1, f.2, and-false (eqb i j)) (count-exited s.counts h.counts-256 i o li (known e) z j q l k)
+          rw (f.1, f.2, and-false (eqb i j)) (count-exited s.counts h.counts_256 i o li (known e) z j q l k)
 
       enter-tells : y.opcode ≡ 7 → (vars limit : ℕ) (a : Addr) → enter_fault s.counts i t (var y.operand) limit a ≡ 0
           → Tells (enter_move s i t vars (var y.operand) a)
@@ -196,7 +196,7 @@ module _ (past : List Event) (s : State) (h : Told past s) (i : ℕ) (t : Thread
         at l =
             let e = start-says i t y w in
             began past s h (ev 0) j new (with_thread (with_thread s j new) i starter) refl l e.0 e.1 e.2 (started-live (thread_at s j) t c args)
-            (rw (length-set (set s.threads j new) i starter, length-set s.threads j new) h.threads-8) refl (λ k b. still k) (free-holds-nothing P s g l)
+            (rw (length-set (set s.threads j new) i starter, length-set s.threads j new) h.threads_8) refl (λ k b. still k) (free-holds-nothing P s g l)
 
     -- line by line of the table
     module _ (P : Program) (g : Belongs P s) (p : Placed P s.objects t) (fails : Bool) where
@@ -243,8 +243,8 @@ after-told b past s h x =
 
     go : Moving b s i x.fails → Tells past s h i T (instruction_met b T) (move_of (program_of b) s i T (method_here b s i) x.fails (instruction_here b s i))
     go k =
-        let p = k.belongs.live-placed i k.thread-8 k.live in
-        let e = k.formed.table T.class T.at.0 p.class-known p.address-first p.address-last in
+        let p = k.belongs.live_placed i k.thread_8 k.live in
+        let e = k.formed.table T.class T.at.0 p.class_known p.address_first p.address_last in
         rw (met-live b s i k.live, ← met_runs b s i)
-        ((move-tells past s h i T (code_here b T) k.thread-8 k.live refl (program_of b) k.belongs p x.fails).tells
-        (rw (met_runs b s i) e) (rw (met_runs b s i) k.no-fault) (rw (met_runs b s i) k.no-wait))
+        ((move-tells past s h i T (code_here b T) k.thread_8 k.live refl (program_of b) k.belongs p x.fails).tells
+        (rw (met_runs b s i) e) (rw (met_runs b s i) k.no_fault) (rw (met_runs b s i) k.no_wait))

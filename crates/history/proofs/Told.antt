@@ -20,9 +20,9 @@ use Rattle.history.proofs.Reading.{live_on, live-ended, live-started, begun, one
 
 -- `counted` is of all eight numbers, live or not: a thread that ends holds nothing, so its monitorenters are then its monitorexits
 pub record Told (past : List Event) (s : State) : Type 0 where
-  pub threads-8 : length s.threads ≡ 8
-  pub counts-256 : length s.counts ≡ 256
-  pub live-8 : length (live_after past) ≡ 8
+  pub threads_8 : length s.threads ≡ 8
+  pub counts_256 : length s.counts ≡ 256
+  pub live_8 : length (live_after past) ≡ 8
   pub lives : (t : ℕ) → t < 8 → get_or (live_after past) t false ≡ (thread_at s t).live
   pub counted : (t o : ℕ) → t < 8 → o < 32
       → number (enters o) (since_start t past) ≡ number (exits o) (since_start t past) + count_of s.counts t o
@@ -59,9 +59,9 @@ module _ (past : List Event) (s : State) (h : Told past s) where
       → Balanced e s.counts s'.counts → Told (e ∷ past) s'
   goes e s' p q n m a c =
       record {
-        threads-8 = n;
-        counts-256 = m;
-        live-8 = rw (live_on past e p q) h.live-8;
+        threads_8 = n;
+        counts_256 = m;
+        live_8 = rw (live_on past e p q) h.live_8;
         lives = λ t l. rw (live_on past e p q) (h.lives t l ∙ a t l);
         counted = balance e s' p c;
       }
@@ -72,10 +72,10 @@ module _ (past : List Event) (s : State) (h : Told past s) where
       → s'.threads ≡ set s.threads i u → s'.counts ≡ s.counts → Told (e ∷ past) s'
   ended e i u s' w li p q x y d f g =
       record {
-        threads-8 = rw (f, length-set s.threads i u) h.threads-8;
-        counts-256 = rw g h.counts-256;
-        live-8 = rw (live-ended past e p q, length-set (live_after past) e.thread false) h.live-8;
-        lives = λ t l. rw (live-ended past e p q, w, f) (both-written (live_after past) s.threads i false u d h.live-8 h.threads-8 li h.lives t l);
+        threads_8 = rw (f, length-set s.threads i u) h.threads_8;
+        counts_256 = rw g h.counts_256;
+        live_8 = rw (live-ended past e p q, length-set (live_after past) e.thread false) h.live_8;
+        lives = λ t l. rw (live-ended past e p q, w, f) (both-written (live_after past) s.threads i false u d h.live_8 h.threads_8 li h.lives t l);
         counted = balance e s' p (λ t o l k. rw (x o, y o, and-false (is_of t e), g));
       }
 
@@ -97,10 +97,10 @@ module _ (past : List Event) (s : State) (h : Told past s) where
       → Told (e ∷ past) s'
   began e j u s' w lj p x y d n g a z =
       record {
-        threads-8 = n;
-        counts-256 = rw g h.counts-256;
-        live-8 = rw (live-started past e p, length-set (live_after past) (taken (live_after past)) true) h.live-8;
-        lives = λ t l. rw (live-started past e p, same_number, ← w) (both-written (live_after past) s.threads j true u d h.live-8 h.threads-8 lj h.lives t l ∙ a t l);
+        threads_8 = n;
+        counts_256 = rw g h.counts_256;
+        live_8 = rw (live-started past e p, length-set (live_after past) (taken (live_after past)) true) h.live_8;
+        lives = λ t l. rw (live-started past e p, same_number, ← w) (both-written (live_after past) s.threads j true u d h.live_8 h.threads_8 lj h.lives t l ∙ a t l);
         counted = λ t o l k. go t o l k (ℕ_discrete t j);
       }
     where

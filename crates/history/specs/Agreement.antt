@@ -32,12 +32,12 @@ pub record Agrees (b : List ℕ) : Type 0 where
   -- "since it started", by the machine's own threads; the rest fixes both numbers of every live thread, step by step. Before any step both are 0 ..
   pub at_first : (t o : ℕ) → (entered (history b []) t o ≡ 0) × (exited (history b []) t o ≡ 0)
   -- .. and so they are after a step that found the thread not live and left it live
-  pub at-start : (xs : List Step) (x : Step) (t o : ℕ) → is_live b xs t ≡ false → is_live b (with_step xs x) t ≡ true
+  pub at_start : (xs : List Step) (x : Step) (t o : ℕ) → is_live b xs t ≡ false → is_live b (with_step xs x) t ≡ true
       → (entered (history b (with_step xs x)) t o ≡ 0) × (exited (history b (with_step xs x)) t o ≡ 0)
   -- .. and of a thread that was live before the step, each grows by what the step's event adds
-  pub enters-grow : (xs : List Step) (x : Step) (t o : ℕ) → is_live b xs t ≡ true
+  pub enters_grow : (xs : List Step) (x : Step) (t o : ℕ) → is_live b xs t ≡ true
       → entered (history b (with_step xs x)) t o ≡ added t (enters o) (event_of b (reached b xs) x) + entered (history b xs) t o
-  pub exits-grow : (xs : List Step) (x : Step) (t o : ℕ) → is_live b xs t ≡ true
+  pub exits_grow : (xs : List Step) (x : Step) (t o : ℕ) → is_live b xs t ≡ true
       → exited (history b (with_step xs x)) t o ≡ added t (exits o) (event_of b (reached b xs) x) + exited (history b xs) t o
 
 -- Q-2: "for any bundle with verdict 0"

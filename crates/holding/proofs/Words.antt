@@ -50,7 +50,7 @@ pub idle-words : IdleWords
 idle-words b e xs t i l k idle =
     let r = belongs-elim (program_of b) (reached b xs) (reached-ok b e xs) in
     let n = count_of (reached b xs).counts t i in
-    r.worded t i l k ∙ go n (r.counted t i l k).by-live (ℕ_discrete n 0)
+    r.worded t i l k ∙ go n (r.counted t i l k).by_live (ℕ_discrete n 0)
   where
     go : (n : ℕ) → (0 < n → (thread_at (reached b xs) t).live ≡ true) → Dec (n ≡ 0) → ltb 0 n ≡ false
     go n h (yes q) = le-ltb 0 n (omega arith)

@@ -7,7 +7,7 @@ mod print;
 
 use state::State;
 use std::io;
-use std::io::{BufWriter, Write};
+use std::io::Write;
 use std::process::ExitCode;
 
 fn follow(out: &mut impl Write, b: &[u8], start: State, schedule: &[u8]) -> io::Result<()> {
@@ -50,8 +50,6 @@ fn main(rt: HostRuntime) -> io::Result<ExitCode> {
         return Ok(ExitCode::FAILURE);
     }
     let n = got.count;
-    let mut out = BufWriter::new(rt.alloc(), io::writer(&rt))?;
-    print_trace(&mut out, &space[..n])?;
-    out.flush()?;
+    print_trace(&mut io::writer(&rt), &space[..n])?;
     Ok(ExitCode::SUCCESS)
 }

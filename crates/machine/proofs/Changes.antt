@@ -54,14 +54,14 @@ first-refers m objects f l = rw (first-at m f l) (go (ltb f m.fields && not (eqb
 
 -- there is a place for each count and a word for each thread, as the arrays have it
 pub record Sized (s : State) : Type 0 where
-  pub counts-256 : length s.counts ≡ 256
-  pub held-8 : length s.held ≡ 8
+  pub counts_256 : length s.counts ≡ 256
+  pub held_8 : length s.held ≡ 8
 
 pub counted-sized : (s : State) → Sized s → (i o n : ℕ) → Sized (with_count s i o n)
 counted-sized s z i o n =
     record {
-      counts-256 = length-set s.counts (i * 32 + o) n ∙ z.counts-256;
-      held-8 = length-set s.held i (marked (word_of s.held i) o n) ∙ z.held-8;
+      counts_256 = length-set s.counts (i * 32 + o) n ∙ z.counts_256;
+      held_8 = length-set s.held i (marked (word_of s.held i) o n) ∙ z.held_8;
     }
 
 -- where a count is written, its bit goes with it
@@ -76,10 +76,10 @@ words-written s h z i o n l small j p e f = go (ℕ_discrete j i) (ℕ_discrete 
 
     go : Dec (j ≡ i) → Dec (p ≡ o) → bit (word_of (set s.held i word) j) p ≡ ltb 0 (count_of (set s.counts (i * 32 + o) n) j p)
     go (yes q) (yes r) =
-        rw (q, r, get_or-set_same s.held i word 0 (omega (arith, z.held-8)), get_or-set_same s.counts (i * 32 + o) n 0 (omega (arith, z.counts-256)))
+        rw (q, r, get_or-set_same s.held i word 0 (omega (arith, z.held_8)), get_or-set_same s.counts (i * 32 + o) n 0 (omega (arith, z.counts_256)))
         (marked-same (word_of s.held i) o n small)
     go (yes q) (no r) =
-        rw (q, get_or-set_same s.held i word 0 (omega (arith, z.held-8)), unwritten i p (λ w. omega arith))
+        rw (q, get_or-set_same s.held i word 0 (omega (arith, z.held_8)), unwritten i p (λ w. omega arith))
         (marked_other (word_of s.held i) o n p small f (λ w. r (sym w)) ∙ h i p l f)
     go (no q) r = rw (get_or-set_other s.held i j word 0 q, unwritten j p (λ w. omega arith)) (h j p e f)
 
@@ -89,45 +89,45 @@ module _ (P : Program) (s : State) (h : Belongs P s) where
       → ((o : ℕ) → o < 32 → 0 < count_of s.counts i o → u.live ≡ true) → Belongs P (with_thread s i u)
   thread-belongs i u p c =
       record {
-        live-placed = λ j l. write-or (λ (t : Thread). t.live ≡ true → Placed P s.objects t) s.threads i j u idle (h.live-placed j l) (λ q. p);
-        some-object = h.some-object;
-        first-class = h.first-class;
-        objects-32 = h.objects-32;
-        object-class = h.object-class;
-        field-refers = h.field-refers;
+        live_placed = λ j l. write-or (λ (t : Thread). t.live ≡ true → Placed P s.objects t) s.threads i j u idle (h.live_placed j l) (λ q. p);
+        some_object = h.some_object;
+        first_class = h.first_class;
+        objects_32 = h.objects_32;
+        object_class = h.object_class;
+        field_refers = h.field_refers;
         counted = λ j o l k. write-or (λ (t : Thread). Counted s.objects t.live o (count_of s.counts j o)) s.threads i j u idle (h.counted j o l k) (λ q. at j o k q (h.counted j o l k));
-        one-holder = h.one-holder;
+        one_holder = h.one_holder;
         worded = h.worded;
       }
     where
       at : (j o : ℕ) → o < 32 → j ≡ i → Counted s.objects (thread_at s j).live o (count_of s.counts j o)
           → Counted s.objects u.live o (count_of s.counts j o)
-      at j o k q d = record { count-2047 = d.count-2047; on-object = d.on-object; by-live = λ n. c o k (rw q at n) }
+      at j o k q d = record { count_2047 = d.count_2047; on_object = d.on_object; by_live = λ n. c o k (rw q at n) }
 
   -- no other thread holds the object
   pub count-belongs : Sized s → (i o n : ℕ) → i < 8 → o < s.objects → (thread_at s i).live ≡ true → n ≤ 2047
       → ((j : ℕ) → j < 8 → 0 < count_of s.counts j o → j ≡ i) → Belongs P (with_count s i o n)
   count-belongs z i o n l b a m others =
       record {
-        live-placed = h.live-placed;
-        some-object = h.some-object;
-        first-class = h.first-class;
-        objects-32 = h.objects-32;
-        object-class = h.object-class;
-        field-refers = h.field-refers;
+        live_placed = h.live_placed;
+        some_object = h.some_object;
+        first_class = h.first_class;
+        objects_32 = h.objects_32;
+        object_class = h.object_class;
+        field_refers = h.field_refers;
         counted = λ j p e f. write-or (λ (k : ℕ). Counted s.objects (thread_at s j).live p k) s.counts (i * 32 + o) (j * 32 + p) n 0 (h.counted j p e f) (λ q. at j p f q);
-        one-holder = λ j k p e f g x y. sole j k p e f g x y (ℕ_discrete p o);
+        one_holder = λ j k p e f g x y. sole j k p e f g x y (ℕ_discrete p o);
         worded = words-written s h.worded z i o n l small;
       }
     where
       small : o < 32
-      small = omega (arith, h.objects-32)
+      small = omega (arith, h.objects_32)
 
       at : (j p : ℕ) → p < 32 → j * 32 + p ≡ i * 32 + o → Counted s.objects (thread_at s j).live p n
       at j p f q =
           let e : j ≡ i = omega (arith, small) in
           let g : p ≡ o = omega (arith, small) in
-          record { count-2047 = m; on-object = λ k. omega arith; by-live = λ k. rw e a }
+          record { count_2047 = m; on_object = λ k. omega arith; by_live = λ k. rw e a }
 
       unwritten : (j p : ℕ) → (j * 32 + p) ≢ (i * 32 + o) → count_of (set s.counts (i * 32 + o) n) j p ≡ count_of s.counts j p
       unwritten j p q = get_or-set_other s.counts (i * 32 + o) (j * 32 + p) n 0 q
@@ -143,20 +143,20 @@ module _ (P : Program) (s : State) (h : Belongs P s) where
           → 0 < count_of (set s.counts (i * 32 + o) n) k p → Dec (p ≡ o) → j ≡ k
       sole j k p e f g x y (yes q) = holder j p e q x ∙ sym (holder k p f q y)
       sole j k p e f g x y (no q) =
-          h.one-holder j k p e f g (rw (unwritten j p (λ w. omega (arith, small))) at x) (rw (unwritten k p (λ w. omega (arith, small))) at y)
+          h.one_holder j k p e f g (rw (unwritten j p (λ w. omega (arith, small))) at x) (rw (unwritten k p (λ w. omega (arith, small))) at y)
 
   -- what a field comes to hold refers to an object
   pub field-belongs : (o f : ℕ) (x : Slot) → refers s.objects x ≡ true → Belongs P (with_field s o f x)
   field-belongs o f x e =
       record {
-        live-placed = h.live-placed;
-        some-object = h.some-object;
-        first-class = h.first-class;
-        objects-32 = h.objects-32;
-        object-class = h.object-class;
-        field-refers = λ p g l k. write-or (λ (y : Slot). refers s.objects y ≡ true) s.fields (o * 4 + f) (p * 4 + g) x zero_slot (h.field-refers p g l k) (λ q. e);
+        live_placed = h.live_placed;
+        some_object = h.some_object;
+        first_class = h.first_class;
+        objects_32 = h.objects_32;
+        object_class = h.object_class;
+        field_refers = λ p g l k. write-or (λ (y : Slot). refers s.objects y ≡ true) s.fields (o * 4 + f) (p * 4 + g) x zero_slot (h.field_refers p g l k) (λ q. e);
         counted = h.counted;
-        one-holder = h.one-holder;
+        one_holder = h.one_holder;
         worded = h.worded;
       }
 
@@ -165,20 +165,20 @@ module _ (P : Program) (s : State) (h : Belongs P s) where
       → ((f : ℕ) → f < 4 → refers (s.objects + 1) (get_or first f zero_slot) ≡ true) → Belongs P (grown s c first)
   object-belongs c first b l few new =
       record {
-        live-placed = λ i e a. placed-more P s.objects (thread_at s i) (h.live-placed i e a);
-        some-object = omega arith;
-        first-class = get_or-set_other s.classes s.objects 0 c 0 (λ q. omega (arith, h.some-object)) ∙ h.first-class;
-        objects-32 = omega arith;
-        object-class = known;
-        field-refers = λ o f e k. let small : f < 4 = omega (arith, few _ (known o e)) in fields_in (λ (y : Slot). refers (s.objects + 1) y ≡ true) s.fields first s.objects o f small refl (λ q. new f small) (λ q. refers-more s.objects (field_of s.fields o f) (h.field-refers o f (omega arith) (rw (get_or-set_other s.classes s.objects o c 0 q) at k)));
+        live_placed = λ i e a. placed-more P s.objects (thread_at s i) (h.live_placed i e a);
+        some_object = omega arith;
+        first_class = get_or-set_other s.classes s.objects 0 c 0 (λ q. omega (arith, h.some_object)) ∙ h.first_class;
+        objects_32 = omega arith;
+        object_class = known;
+        field_refers = λ o f e k. let small : f < 4 = omega (arith, few _ (known o e)) in fields_in (λ (y : Slot). refers (s.objects + 1) y ≡ true) s.fields first s.objects o f small refl (λ q. new f small) (λ q. refers-more s.objects (field_of s.fields o f) (h.field_refers o f (omega arith) (rw (get_or-set_other s.classes s.objects o c 0 q) at k)));
         counted = λ i o e f. more i o (h.counted i o e f);
-        one-holder = h.one-holder;
+        one_holder = h.one_holder;
         worded = h.worded;
       }
     where
       known : (o : ℕ) → o < s.objects + 1 → get_or (set s.classes s.objects c) o 0 < P.classes
-      known o e = write-in (λ (k : ℕ). k < P.classes) s.classes s.objects o c 0 (omega arith) (λ q. b) (λ q. h.object-class o (omega arith))
+      known o e = write-in (λ (k : ℕ). k < P.classes) s.classes s.objects o c 0 (omega arith) (λ q. b) (λ q. h.object_class o (omega arith))
 
       more : (i o : ℕ) → Counted s.objects (thread_at s i).live o (count_of s.counts i o)
           → Counted (s.objects + 1) (thread_at s i).live o (count_of s.counts i o)
-      more i o d = record { count-2047 = d.count-2047; on-object = λ n. omega (arith, d.on-object n); by-live = d.by-live }
+      more i o d = record { count_2047 = d.count_2047; on_object = λ n. omega (arith, d.on_object n); by_live = d.by_live }

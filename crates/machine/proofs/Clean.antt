@@ -44,21 +44,21 @@ Unused P s o f = o < s.objects → (P.method (class_of s o)).fields ≤ f
 -- every place out of use is integer 0, at each of the eight thread numbers and of the four fields of each object (the classes are 32, as their array has it)
 pub record Clean (P : Program) (s : State) : Type 0 where
   pub clean_at : (i : ℕ) → i < 8 → CleanThread P (thread_at s i)
-  pub clean-field : (o f : ℕ) → f < 4 → Unused P s o f → field_of s.fields o f ≡ zero_slot
-  pub classes-32 : length s.classes ≡ 32
+  pub clean_field : (o f : ℕ) → f < 4 → Unused P s o f → field_of s.fields o f ≡ zero_slot
+  pub classes_32 : length s.classes ≡ 32
 
 thread-clean : (P : Program) (s : State) → Clean P s → (i : ℕ) (u : Thread) → CleanThread P u → Clean P (with_thread s i u)
 thread-clean P s h i u c =
-    record { clean_at = λ j l. write-or (CleanThread P) s.threads i j u idle (h.clean_at j l) (λ q. c); clean-field = h.clean-field; classes-32 = h.classes-32 }
+    record { clean_at = λ j l. write-or (CleanThread P) s.threads i j u idle (h.clean_at j l) (λ q. c); clean_field = h.clean_field; classes_32 = h.classes_32 }
 
 -- a field that the object's class has is in use
 field-clean : (P : Program) (s : State) → Clean P s → (o f : ℕ) (x : Slot) → f < 4 → o < s.objects → f < (P.method (class_of s o)).fields → Clean P (with_field s o f x)
 field-clean P s h o f x b l k =
     record {
       clean_at = h.clean_at;
-      clean-field = λ p g e u. write-in (λ (y : Slot). y ≡ zero_slot) s.fields (o * 4 + f) (p * 4 + g) x zero_slot refl
-          (λ q. let r : p ≡ o = omega arith in absurd (omega (arith, rw r at (u (omega arith))))) (λ q. h.clean-field p g e u);
-      classes-32 = h.classes-32;
+      clean_field = λ p g e u. write-in (λ (y : Slot). y ≡ zero_slot) s.fields (o * 4 + f) (p * 4 + g) x zero_slot refl
+          (λ q. let r : p ≡ o = omega arith in absurd (omega (arith, rw r at (u (omega arith))))) (λ q. h.clean_field p g e u);
+      classes_32 = h.classes_32;
     }
 
 -- a new object's places that are out of use are integer 0
@@ -68,17 +68,17 @@ object-clean P s h c = go (ltb s.objects 32) refl
   where
     new : (o f : ℕ) → f < 4 → s.objects < 32 → o ≡ s.objects → Unused P (grown s c (first_fields (P.method c))) o f → get_or (first_fields (P.method c)) f zero_slot ≡ zero_slot
     new o f b l q u =
-        let e : get_or (set s.classes s.objects c) s.objects 0 ≡ c = get_or-set_same s.classes s.objects c 0 (omega (arith, h.classes-32)) in
+        let e : get_or (set s.classes s.objects c) s.objects 0 ≡ c = get_or-set_same s.classes s.objects c 0 (omega (arith, h.classes_32)) in
         rw (first-at (P.method c) f b, le-ltb f (P.method c).fields (rw (q, e) at (u (omega arith))))
 
     go : (t : Bool) → ltb s.objects 32 ≡ t → Clean P (cond t (grown s c (first_fields (P.method c))) s)
     go true a =
         record {
           clean_at = h.clean_at;
-          clean-field = λ o f b u. fields_in (λ (y : Slot). y ≡ zero_slot) s.fields (first_fields (P.method c)) s.objects o f b refl
+          clean_field = λ o f b u. fields_in (λ (y : Slot). y ≡ zero_slot) s.fields (first_fields (P.method c)) s.objects o f b refl
               (λ q. new o f b (ltb-true _ _ a) q u)
-              (λ q. h.clean-field o f b (λ l. rw (get_or-set_other s.classes s.objects o c 0 q) at (u (omega arith))));
-          classes-32 = simp length-set h.classes-32;
+              (λ q. h.clean_field o f b (λ l. rw (get_or-set_other s.classes s.objects o c 0 q) at (u (omega arith))));
+          classes_32 = simp length-set h.classes_32;
         }
     go false a = h
 
@@ -115,7 +115,7 @@ module _ (P : Program) (s : State) (h : Clean P s) (i : ℕ) (t : Thread) (p : C
   -- a count is no place
   counted-clean : (o n : ℕ) → Cleans P (counted s i t o n)
   counted-clean o n =
-      goes (with_count s i o n) (record { clean_at = h.clean_at; clean-field = h.clean-field; classes-32 = h.classes-32 }) t p (t.at.0 + 1)
+      goes (with_count s i o n) (record { clean_at = h.clean_at; clean_field = h.clean_field; classes_32 = h.classes_32 }) t p (t.at.0 + 1)
 
   end_clean : (n : ℕ) → Cleans P (end_move s i t method.vars n)
   end_clean n = record { cleans = thread-clean P s h i _ (ended-clean P t.class t p) }
@@ -167,11 +167,11 @@ module _ (P : Program) (s : State) (h : Clean P s) (i : ℕ) (t : Thread) (p : C
   move-clean wf g m fails (Enter v a) e f w = enter-clean v a
   move-clean wf g m fails (Exit v) e f w = counted-clean (lock_of t v) _
   move-clean wf g m fails (New k a) e f w = either (Cleans P) (new_fails s fails) _ _ (λ _. throw-clean a (ref_slot 0)) (λ _. make-clean k)
-  move-clean wf g m fails (Start k) e f w = start-clean k (P.method k).args (wf.args-vars k e.0) w
+  move-clean wf g m fails (Start k) e f w = start-clean k (P.method k).args (wf.args_vars k e.0) w
   move-clean wf g m fails (Throw a) e f w = throw-clean a (top_of t)
   move-clean wf g m fails Return e f w = end_clean 1
   move-clean wf g m fails (Get k d a) e f w = get-clean k d a f
-  move-clean wf g m fails (Put k d a) e f w = put-clean k d ((P.method k).field d) a (omega (arith, wf.fields-4 k e.0)) e.1 g m f
+  move-clean wf g m fails (Put k d a) e f w = put-clean k d ((P.method k).field d) a (omega (arith, wf.fields_4 k e.0)) e.1 g m f
   move-clean wf g m fails Nothing e f w = absurd e
 
 step-cleans : (b : List ℕ) (s : State) (i : ℕ) (fails : Bool) → Clean (program_of b) s → Cleans (program_of b) (step_of b s i fails)
@@ -179,10 +179,10 @@ step-cleans b s i fails h = step_by (Cleans (program_of b)) b s i fails (λ n l.
   where
     go : Moving b s i fails → Cleans (program_of b) (move_of (program_of b) s i (thread_at s i) (method_here b s i) fails (instruction_here b s i))
     go m =
-        let p = m.belongs.live-placed i m.thread-8 m.live in
-        let e = m.formed.table (thread_at s i).class (thread_at s i).at.0 p.class-known p.address-first p.address-last in
-        move-clean (program_of b) s h i (thread_at s i) (clean-live (program_of b) (thread_at s i) m.live (h.clean_at i m.thread-8)) m.formed m.belongs p fails (instruction_here b s i)
-        e m.no-fault m.no-wait
+        let p = m.belongs.live_placed i m.thread_8 m.live in
+        let e = m.formed.table (thread_at s i).class (thread_at s i).at.0 p.class_known p.address_first p.address_last in
+        move-clean (program_of b) s h i (thread_at s i) (clean-live (program_of b) (thread_at s i) m.live (h.clean_at i m.thread_8)) m.formed m.belongs p fails (instruction_here b s i)
+        e m.no_fault m.no_wait
 
 -- THEOREM: where every place out of use is integer 0, it is so after a step, whatever the step answers; so too with 17 and 18, which give back the state as given.
 pub step-clean : (b : List ℕ) (s : State) (i : ℕ) (fails : Bool) → Clean (program_of b) s → Clean (program_of b) (step_of b s i fails).state
@@ -193,8 +193,8 @@ empty-clean : (P : Program) → Clean P empty_state
 empty-clean P =
     record {
       clean_at = λ i l. rw (get_or-replicate 8 i idle idle l) (record { variables = zero-new 0 16; places = zero-new 0 16 });
-      clean-field = λ o f b u. (zero-new 0 128).zero-at (o * 4 + f) (omega arith);
-      classes-32 = length-replicate {A = ℕ} 32 0;
+      clean_field = λ o f b u. (zero-new 0 128).zero_at (o * 4 + f) (omega arith);
+      classes_32 = length-replicate {A = ℕ} 32 0;
     }
 
 main-clean : (P : Program) → CleanThread P main_thread

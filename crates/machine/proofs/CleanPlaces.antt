@@ -19,10 +19,10 @@ use Rattle.machine.proofs.Writes.{write-in}
 -- ---- variables or stack places
 -- each place from n on is integer 0 (past the end nothing stands, and zero_slot is read)
 pub record ZeroFrom (n : ℕ) (l : List Slot) : Type 0 where
-  pub zero-at : (i : ℕ) → n ≤ i → get_or l i zero_slot ≡ zero_slot
+  pub zero_at : (i : ℕ) → n ≤ i → get_or l i zero_slot ≡ zero_slot
 
 pub zero-new : (n m : ℕ) → ZeroFrom n (replicate m zero_slot)
-zero-new n m = record { zero-at = λ i h. go i (dec_lt i m) }
+zero-new n m = record { zero_at = λ i h. go i (dec_lt i m) }
   where
     go : (i : ℕ) → Dec (i < m) → get_or (replicate m zero_slot) i zero_slot ≡ zero_slot
     go i (yes k) = get_or-replicate m i zero_slot zero_slot k
@@ -31,7 +31,7 @@ zero-new n m = record { zero-at = λ i h. go i (dec_lt i m) }
 -- a write at a place that is in use then
 zero-set : (n m i : ℕ) (x : Slot) (l : List Slot) → n ≤ m → i < m → ZeroFrom n l → ZeroFrom m (set l i x)
 zero-set n m i x l k b z =
-    record { zero-at = λ j h. write-in (λ (y : Slot). y ≡ zero_slot) l i j x zero_slot refl (λ q. absurd (omega arith)) (λ q. z.zero-at j (omega arith)) }
+    record { zero_at = λ j h. write-in (λ (y : Slot). y ≡ zero_slot) l i j x zero_slot refl (λ q. absurd (omega arith)) (λ q. z.zero_at j (omega arith)) }
 
 filled_at : (n m i : ℕ) (l : List Slot) → n ≤ i → (n + m ≤ i → get_or l i zero_slot ≡ zero_slot) → get_or (fill_from n m zero_slot l) i zero_slot ≡ zero_slot
 unfolding fill_from
@@ -41,7 +41,7 @@ filled_at n (suc m) i l k old =
 
 -- k places from m on, with all below n, become integer 0
 zero-fill : (n m k : ℕ) (l : List Slot) → n ≤ m + k → ZeroFrom n l → ZeroFrom m (fill_from m k zero_slot l)
-zero-fill n m k l b z = record { zero-at = λ i h. filled_at m k i l h (λ e. z.zero-at i (omega arith)) }
+zero-fill n m k l b z = record { zero_at = λ i h. filled_at m k i l h (λ e. z.zero_at i (omega arith)) }
 
 -- ---- a thread
 -- In use are a live thread's variables below V and its stack places within its depth.
@@ -59,17 +59,17 @@ pub record CleanThread (P : Program) (t : Thread) : Type 0 where
 -- the same of a live thread of class c, while an instruction changes it
 pub record CleanLive (P : Program) (c : ℕ) (t : Thread) : Type 0 where
   pub is_live : t.live ≡ true
-  pub of-class : t.class ≡ c
+  pub of_class : t.class ≡ c
   pub variables : ZeroFrom (P.method c).vars t.vars
   pub places : ZeroFrom t.depth t.stack
 
 module _ (P : Program) where
   pub clean-live : (t : Thread) → t.live ≡ true → CleanThread P t → CleanLive P t.class t
-  clean-live t a h = record { is_live = a; of-class = refl; variables = rw a at h.variables; places = rw a at h.places }
+  clean-live t a h = record { is_live = a; of_class = refl; variables = rw a at h.variables; places = rw a at h.places }
 
   -- wherever the thread goes
   pub live_clean : (c : ℕ) (t : Thread) (a : ℕ) → CleanLive P c t → CleanThread P (with_at t a)
-  live_clean c t a h = record { variables = rw (h.is_live, h.of-class) h.variables; places = rw h.is_live h.places }
+  live_clean c t a h = record { variables = rw (h.is_live, h.of_class) h.variables; places = rw h.is_live h.places }
 
   -- an ended thread has no place in use
   pub ended-clean : (c : ℕ) (t : Thread) → CleanLive P c t → CleanThread P (ended (P.method c).vars t)
@@ -81,10 +81,10 @@ module _ (P : Program) where
   pub started-clean : (old t : Thread) (c args : ℕ) → args ≤ (P.method c).vars → old.live ≡ false → CleanThread P old
       → CleanThread P (started old t c args)
   unfolding started
-  started-clean old t c args k a h = record { variables = record { zero-at = others }; places = rw a at h.places }
+  started-clean old t c args k a h = record { variables = record { zero_at = others }; places = rw a at h.places }
     where
       others : (v : ℕ) → (P.method c).vars ≤ v → get_or (set_below args (from_top t) (replicate 16 zero_slot)) v zero_slot ≡ zero_slot
-      others v l = rw (set-above (from_top t) (replicate 16 zero_slot) args v zero_slot (omega arith)) ((zero-new 0 16).zero-at v (omega arith))
+      others v l = rw (set-above (from_top t) (replicate 16 zero_slot) args v zero_slot (omega arith)) ((zero-new 0 16).zero_at v (omega arith))
 
   module _ (c : ℕ) (t : Thread) (h : CleanLive P c t) where
     pub topped-clean : (x : Slot) → 1 ≤ t.depth → CleanLive P c (topped t x)
@@ -92,7 +92,7 @@ module _ (P : Program) where
     topped-clean x k =
         record {
           is_live = h.is_live;
-          of-class = h.of-class;
+          of_class = h.of_class;
           variables = h.variables;
           places = zero-set t.depth t.depth (t.depth - 1) x t.stack (omega arith) (omega arith) h.places;
         }
@@ -105,7 +105,7 @@ module _ (P : Program) where
         go true =
             record {
               is_live = h.is_live;
-              of-class = h.of-class;
+              of_class = h.of_class;
               variables = h.variables;
               places = zero-set t.depth (t.depth + 1) t.depth x t.stack (omega arith) (omega arith) h.places;
             }
@@ -116,7 +116,7 @@ module _ (P : Program) where
     popped-clean n =
         record {
           is_live = h.is_live;
-          of-class = h.of-class;
+          of_class = h.of_class;
           variables = h.variables;
           places = zero-fill t.depth (t.depth - n) n t.stack (omega arith) h.places;
         }
@@ -126,7 +126,7 @@ module _ (P : Program) where
     stored-clean v x k =
         record {
           is_live = h.is_live;
-          of-class = h.of-class;
+          of_class = h.of_class;
           variables = zero-set (P.method c).vars (P.method c).vars v x t.vars (omega arith) k h.variables;
           places = h.places;
         }

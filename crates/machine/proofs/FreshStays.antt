@@ -32,33 +32,33 @@ empty-count i o l k = get_or-replicate 256 (i * 32 + o) 0 0 (omega arith)
 fresh-refers : (P : Program) → WellFormed P → (f : ℕ) → f < (P.method P.exception).fields
     → refers 1 (field_of (fields_with empty_state.fields 0 (first_fields (P.method P.exception))) 0 f) ≡ true
 fresh-refers P wf f k =
-    let l : f < 4 = omega (arith, wf.fields-4 P.exception wf.exception) in
+    let l : f < 4 = omega (arith, wf.fields_4 P.exception wf.exception) in
     fields_in (λ (y : Slot). refers 1 y ≡ true) empty_state.fields (first_fields (P.method P.exception)) 0 0 f l refl (λ q. first-refers (P.method P.exception) 1 f l) (λ q. absurd (q refl))
 
 -- object 0 alone, and no live thread
 one-belongs : (P : Program) → WellFormed P → Belongs P (grown empty_state P.exception (first_fields (P.method P.exception)))
 one-belongs P wf =
     record {
-      live-placed = λ i l a. never (rw (empty-thread i l) at a) refl;
-      some-object = omega arith;
-      first-class = refl;
-      objects-32 = omega arith;
-      object-class = λ o l. let q : o ≡ 0 = omega arith in rw q wf.exception;
-      field-refers = λ o f l k. let q : o ≡ 0 = omega arith in rw q (fresh-refers P wf f (rw q at k));
-      counted = λ i o l k. rw (empty-count i o l k) (record { count-2047 = omega arith; on-object = λ n. absurd (omega arith); by-live = λ n. absurd (omega arith) });
-      one-holder = λ i j o l k m a b. absurd (omega (arith, empty-count i o l m));
+      live_placed = λ i l a. never (rw (empty-thread i l) at a) refl;
+      some_object = omega arith;
+      first_class = refl;
+      objects_32 = omega arith;
+      object_class = λ o l. let q : o ≡ 0 = omega arith in rw q wf.exception;
+      field_refers = λ o f l k. let q : o ≡ 0 = omega arith in rw q (fresh-refers P wf f (rw q at k));
+      counted = λ i o l k. rw (empty-count i o l k) (record { count_2047 = omega arith; on_object = λ n. absurd (omega arith); by_live = λ n. absurd (omega arith) });
+      one_holder = λ i j o l k m a b. absurd (omega (arith, empty-count i o l m));
       worded = λ i o l k. rw (get_or-replicate {A = ℕ} 8 i 0 0 l, empty-count i o l k) (no_bits o);
     }
 
 fresh-placed : (P : Program) → WellFormed P → Placed P 1 main_thread
 fresh-placed P wf =
     record {
-      class-known = wf.some-class;
-      address-first = omega arith;
-      address-last = wf.some-code 0 wf.some-class;
-      depth-limit = omega arith;
-      variable-refers = λ v l. rw (get_or-replicate 16 v zero_slot zero_slot (omega (arith, wf.vars-16 0 wf.some-class))) refl;
-      stack-refers = λ q l. absurd (omega arith);
+      class_known = wf.some_class;
+      address_first = omega arith;
+      address_last = wf.some_code 0 wf.some_class;
+      depth_limit = omega arith;
+      variable_refers = λ v l. rw (get_or-replicate 16 v zero_slot zero_slot (omega (arith, wf.vars_16 0 wf.some_class))) refl;
+      stack_refers = λ q l. absurd (omega arith);
     }
 
 -- (with 17 there is no object, and so no state of the bundle)
@@ -71,4 +71,4 @@ fresh-belongs b e =
 
 pub fresh-sized : (b : List ℕ) → readable b ≡ true → Sized (fresh_of b).state
 unfolding fresh_of refuse with_object
-fresh-sized b e = rw e (record { counts-256 = refl; held-8 = refl })
+fresh-sized b e = rw e (record { counts_256 = refl; held_8 = refl })

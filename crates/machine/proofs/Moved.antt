@@ -56,21 +56,21 @@ owner objects classes c x r e n =
 pub placed-more : (P : Program) (objects : ℕ) (t : Thread) → Placed P objects t → Placed P (objects + 1) t
 placed-more P objects t p =
     record {
-      class-known = p.class-known;
-      address-first = p.address-first;
-      address-last = p.address-last;
-      depth-limit = p.depth-limit;
-      variable-refers = λ v l. refers-more objects (var_of t v) (p.variable-refers v l);
-      stack-refers = λ q l. refers-more objects (get_or t.stack q zero_slot) (p.stack-refers q l);
+      class_known = p.class_known;
+      address_first = p.address_first;
+      address_last = p.address_last;
+      depth_limit = p.depth_limit;
+      variable_refers = λ v l. refers-more objects (var_of t v) (p.variable_refers v l);
+      stack_refers = λ q l. refers-more objects (get_or t.stack q zero_slot) (p.stack_refers q l);
     }
 
 -- u is what t became, but for its address
 pub record Moved (P : Program) (objects : ℕ) (t u : Thread) : Type 0 where
   pub same_live : u.live ≡ t.live
   pub same_class : u.class ≡ t.class
-  pub depth-limit : u.depth ≤ (P.method t.class).limit
-  pub variable-refers : (v : ℕ) → v < (P.method t.class).vars → refers objects (var_of u v) ≡ true
-  pub stack-refers : (p : ℕ) → p < u.depth → refers objects (get_or u.stack p zero_slot) ≡ true
+  pub depth_limit : u.depth ≤ (P.method t.class).limit
+  pub variable_refers : (v : ℕ) → v < (P.method t.class).vars → refers objects (var_of u v) ≡ true
+  pub stack_refers : (p : ℕ) → p < u.depth → refers objects (get_or u.stack p zero_slot) ≡ true
 
 module _ (P : Program) (objects : ℕ) (t : Thread) where
   pub unmoved : Placed P objects t → Moved P objects t t
@@ -78,13 +78,13 @@ module _ (P : Program) (objects : ℕ) (t : Thread) where
       record {
         same_live = refl;
         same_class = refl;
-        depth-limit = p.depth-limit;
-        variable-refers = p.variable-refers;
-        stack-refers = p.stack-refers;
+        depth_limit = p.depth_limit;
+        variable_refers = p.variable_refers;
+        stack_refers = p.stack_refers;
       }
 
   pub entry-refers : Placed P objects t → (j : ℕ) → j < t.depth → refers objects (from_top t j) ≡ true
-  entry-refers p j l = p.stack-refers (t.depth - 1 - j) (omega arith)
+  entry-refers p j l = p.stack_refers (t.depth - 1 - j) (omega arith)
 
   module _ (u : Thread) (m : Moved P objects t u) where
     pub moved-topped : (x : Slot) → refers objects x ≡ true → Moved P objects t (topped u x)
@@ -93,9 +93,9 @@ module _ (P : Program) (objects : ℕ) (t : Thread) where
         record {
           same_live = m.same_live;
           same_class = m.same_class;
-          depth-limit = m.depth-limit;
-          variable-refers = m.variable-refers;
-          stack-refers = λ p l. write-or (λ (y : Slot). refers objects y ≡ true) u.stack (u.depth - 1) p x zero_slot (m.stack-refers p l) (λ q. e);
+          depth_limit = m.depth_limit;
+          variable_refers = m.variable_refers;
+          stack_refers = λ p l. write-or (λ (y : Slot). refers objects y ≡ true) u.stack (u.depth - 1) p x zero_slot (m.stack_refers p l) (λ q. e);
         }
 
     pub moved_pushed : (x : Slot) → refers objects x ≡ true → u.depth < (P.method t.class).limit → (P.method t.class).limit ≤ 16
@@ -106,9 +106,9 @@ module _ (P : Program) (objects : ℕ) (t : Thread) where
         (record {
           same_live = m.same_live;
           same_class = m.same_class;
-          depth-limit = omega arith;
-          variable-refers = m.variable-refers;
-          stack-refers = λ p b. write-in (λ (y : Slot). refers objects y ≡ true) u.stack u.depth p x zero_slot refl (λ q. e) (λ q. m.stack-refers p (omega arith));
+          depth_limit = omega arith;
+          variable_refers = m.variable_refers;
+          stack_refers = λ p b. write-in (λ (y : Slot). refers objects y ≡ true) u.stack u.depth p x zero_slot refl (λ q. e) (λ q. m.stack_refers p (omega arith));
         })
 
     pub moved-popped : (n : ℕ) → Moved P objects t (popped n u)
@@ -117,9 +117,9 @@ module _ (P : Program) (objects : ℕ) (t : Thread) where
         record {
           same_live = m.same_live;
           same_class = m.same_class;
-          depth-limit = omega (arith, m.depth-limit);
-          variable-refers = m.variable-refers;
-          stack-refers = λ p l. rw (fill-out (u.depth - n) zero_slot u.stack n p zero_slot (λ k. omega arith)) (m.stack-refers p (omega arith));
+          depth_limit = omega (arith, m.depth_limit);
+          variable_refers = m.variable_refers;
+          stack_refers = λ p l. rw (fill-out (u.depth - n) zero_slot u.stack n p zero_slot (λ k. omega arith)) (m.stack_refers p (omega arith));
         }
 
     pub moved-stored : (v : ℕ) (x : Slot) → refers objects x ≡ true → Moved P objects t (stored u v x)
@@ -128,18 +128,18 @@ module _ (P : Program) (objects : ℕ) (t : Thread) where
         record {
           same_live = m.same_live;
           same_class = m.same_class;
-          depth-limit = m.depth-limit;
-          variable-refers = λ w l. write-or (λ (y : Slot). refers objects y ≡ true) u.vars v w x zero_slot (m.variable-refers w l) (λ q. e);
-          stack-refers = m.stack-refers;
+          depth_limit = m.depth_limit;
+          variable_refers = λ w l. write-or (λ (y : Slot). refers objects y ≡ true) u.vars v w x zero_slot (m.variable_refers w l) (λ q. e);
+          stack_refers = m.stack_refers;
         }
 
     pub moved-placed : (a : ℕ) → t.class < P.classes → 1 ≤ a → a ≤ (P.method t.class).code → Placed P objects (with_at u a)
     moved-placed a c f k =
         record {
-          class-known = rw m.same_class c;
-          address-first = f;
-          address-last = rw m.same_class k;
-          depth-limit = rw m.same_class m.depth-limit;
-          variable-refers = rw m.same_class m.variable-refers;
-          stack-refers = m.stack-refers;
+          class_known = rw m.same_class c;
+          address_first = f;
+          address_last = rw m.same_class k;
+          depth_limit = rw m.same_class m.depth_limit;
+          variable_refers = rw m.same_class m.variable_refers;
+          stack_refers = m.stack_refers;
         }

@@ -31,8 +31,8 @@ formed b e = well-formed b (eqb-true (structure_of b).number 0 e)
 pub ready : (b : List ℕ) (s : State) (i : ℕ) → readable b ≡ true → state_ok (program_of b) s ≡ true → i < 8 → (thread_at s i).live ≡ true
     → (thread_at s i).at.0 < 65535
 ready b s i e f l a =
-    let p : Placed (program_of b) s.objects (thread_at s i) = (belongs-elim (program_of b) s f).live-placed i l a in
-    omega (arith, (formed b e).code-256 (thread_at s i).class p.class-known)
+    let p : Placed (program_of b) s.objects (thread_at s i) = (belongs-elim (program_of b) s f).live_placed i l a in
+    omega (arith, (formed b e).code_256 (thread_at s i).class p.class_known)
 
 -- a test that holds of every live thread can be left out
 live-first : (live next : Bool) (s : State) (x : Stepped) → (live ≡ true → next ≡ true) → unless live 5 s (unless next 17 s x) ≡ unless live 5 s x

@@ -51,10 +51,10 @@ instruction_here b s i = (method_here b s i).instruction (thread_at s i).at.0
 pub record Moving (b : List ℕ) (s : State) (i : ℕ) (fails : Bool) : Type 0 where
   pub formed : WellFormed (program_of b)
   pub belongs : Belongs (program_of b) s
-  pub thread-8 : i < 8
+  pub thread_8 : i < 8
   pub live : (thread_at s i).live ≡ true
-  pub no-fault : fault_of (program_of b) s i (thread_at s i) (method_here b s i) fails (instruction_here b s i) ≡ 0
-  pub no-wait : wait_of s i (thread_at s i) (instruction_here b s i) ≡ 0
+  pub no_fault : fault_of (program_of b) s i (thread_at s i) (method_here b s i) fails (instruction_here b s i) ≡ 0
+  pub no_wait : wait_of s i (thread_at s i) (instruction_here b s i) ≡ 0
 
 -- the refusals of a step, in their order
 step_is : (b : List ℕ) (s : State) (i : ℕ) (fails : Bool)
@@ -74,8 +74,8 @@ step_by Q b s i fails q p =
     p (record {
       formed = formed b e;
       belongs = belongs-elim (program_of b) s f;
-      thread-8 = ltb-true i 8 (and-fst (ltb i 8) _ g);
+      thread_8 = ltb-true i 8 (and-fst (ltb i 8) _ g);
       live = and-snd (ltb i 8) _ g;
-      no-fault = h;
-      no-wait = k;
+      no_fault = h;
+      no_wait = k;
     })))))))

@@ -43,7 +43,7 @@ pub record Stays (P : Program) (r : Stepped) : Type 0 where
 
 -- what writes neither counts nor words
 same-sized : (s s' : State) → Sized s → s'.counts ≡ s.counts → s'.held ≡ s.held → Sized s'
-same-sized s s' z p q = record { counts-256 = rw p z.counts-256; held-8 = rw q z.held-8 }
+same-sized s s' z p q = record { counts_256 = rw p z.counts_256; held_8 = rw q z.held_8 }
 
 started-live : (old t : Thread) (c args : ℕ) → (started old t c args).live ≡ true
 unfolding started
@@ -56,7 +56,7 @@ module _ (P : Program) (wf : WellFormed P) (s : State) (h : Belongs P s) (z : Si
   goes : (s' : State) → Belongs P s' → Sized s' → (u : Thread) → Moved P s'.objects t u → (a : ℕ) → 1 ≤ a → a ≤ method.code → Stays P (went_to s' i u a)
   goes s' h' z' u m a f k =
       record {
-        stays = thread-belongs P s' h' i (with_at u a) (λ e. moved-placed P s'.objects t u m a p.class-known f k) (λ o b n. m.same_live ∙ live);
+        stays = thread-belongs P s' h' i (with_at u a) (λ e. moved-placed P s'.objects t u m a p.class_known f k) (λ o b n. m.same_live ∙ live);
         sized = same-sized s' (with_thread s' i (with_at u a)) z' refl refl;
       }
 
@@ -78,7 +78,7 @@ module _ (P : Program) (wf : WellFormed P) (s : State) (h : Belongs P s) (z : Si
 
   push-stays : t.at.0 < method.code → (x : Slot) → refers s.objects x ≡ true → push_fault t method.limit ≡ 0 → Stays P (went_on s i t.at (pushed t x))
   push-stays k x r f =
-      on s h z (pushed t x) (moved_pushed P s.objects t t as-was x r (ltb-true _ _ (tested _ _ _ f).0) (wf.limit-16 t.class p.class-known)) k
+      on s h z (pushed t x) (moved_pushed P s.objects t t as-was x r (ltb-true _ _ (tested _ _ _ f).0) (wf.limit_16 t.class p.class_known)) k
 
   store-stays : t.at.0 < method.code → (v : Var) → top_fault t ≡ 0 → Stays P (store_move s i t v)
   store-stays k v f =
@@ -89,7 +89,7 @@ module _ (P : Program) (wf : WellFormed P) (s : State) (h : Belongs P s) (z : Si
 
   -- the object that a variable in use refers to
   known : (v : Var) → v.0 < method.vars → is_ref (var_of t v.0) ≡ true → lock_of t v < s.objects
-  known v b e = refers-object s.objects (var_of t v.0) (p.variable-refers v.0 b) e
+  known v b e = refers-object s.objects (var_of t v.0) (p.variable_refers v.0 b) e
 
   counted-stays : (thread_at s i).live ≡ true → t.at.0 < method.code → (o n : ℕ) → o < s.objects → n ≤ 2047
       → ((j : ℕ) → j < 8 → 0 < count_of s.counts j o → j ≡ i) → Stays P (counted s i t o n)
@@ -110,9 +110,9 @@ module _ (P : Program) (wf : WellFormed P) (s : State) (h : Belongs P s) (z : Si
       → Stays P (exit_move s i t v)
   exit-stays a k v b f =
       let e = tested _ _ _ f in
-      let small : lock_of t v < 32 = omega (arith, known v b e.0, h.objects-32) in
-      counted-stays a k (lock_of t v) _ (known v b e.0) (omega (arith, (h.counted i _ l small).count-2047))
-      (λ j c n. h.one-holder j i _ c l small n (ltb-true _ _ (tested _ _ _ e.1).0))
+      let small : lock_of t v < 32 = omega (arith, known v b e.0, h.objects_32) in
+      counted-stays a k (lock_of t v) _ (known v b e.0) (omega (arith, (h.counted i _ l small).count_2047))
+      (λ j c n. h.one_holder j i _ c l small n (ltb-true _ _ (tested _ _ _ e.1).0))
 
   end_stays : (vars n : ℕ) → end_fault s.counts i ≡ 0 → Stays P (end_move s i t vars n)
   unfolding holds_nothing ended
@@ -129,12 +129,12 @@ module _ (P : Program) (wf : WellFormed P) (s : State) (h : Belongs P s) (z : Si
       either (Stays P) (eqb a.0 0) _ _ (λ e. end_stays vars 2 (rw e at f))
       (λ e. let some = leb-true 1 method.limit (tested _ _ _ (rw e at f)).0 in
       goes s h z (caught t x)
-      (moved_pushed P s.objects t (popped t.depth t) (moved-popped P s.objects t t as-was t.depth) x r (omega arith) (wf.limit-16 t.class p.class-known))
+      (moved_pushed P s.objects t (popped t.depth t) (moved-popped P s.objects t t as-was t.depth) x r (omega arith) (wf.limit_16 t.class p.class_known))
       a.0 (omega (arith, eqb-false a.0 0 e)) g)
 
   -- null throws object 0
   null-stays : (vars : ℕ) (a : Addr) → a.0 ≤ method.code → throw_fault s.counts i method.limit a ≡ 0 → Stays P (fail_move s i t vars a)
-  null-stays vars a g = throw-stays vars a (ref_slot 0) g (lt-ltb 0 s.objects (omega (arith, h.some-object)))
+  null-stays vars a g = throw-stays vars a (ref_slot 0) g (lt-ltb 0 s.objects (omega (arith, h.some_object)))
 
   enter-stays : (thread_at s i).live ≡ true → t.at.0 < method.code → (vars : ℕ) (v : Var) → v.0 < method.vars → (a : Addr) → a.0 ≤ method.code
       → enter_fault s.counts i t v method.limit a ≡ 0 → enter_wait s.counts i t v ≡ 0 → Stays P (enter_move s i t vars v a)
@@ -154,7 +154,7 @@ module _ (P : Program) (wf : WellFormed P) (s : State) (h : Belongs P s) (z : Si
       let y = tested _ _ _ e.1 in
       either (Stays P) (is_null (top_of t)) _ _ (λ n. null-stays vars a g (rw n at y.1))
       (λ n. let o = owner s.objects s.classes c (top_of t) (top-refers e.0) y.0 n in
-      on s h z (topped t _) (moved-topped P s.objects t t as-was _ (h.field-refers _ f o.0 (rw o.1 b))) k)
+      on s h z (topped t _) (moved-topped P s.objects t t as-was _ (h.field_refers _ f o.0 (rw o.1 b))) k)
 
   put-stays : t.at.0 < method.code → (vars c d f : ℕ) (a : Addr) → a.0 ≤ method.code
       → put_fault s i t c d method.limit a ≡ 0 → Stays P (put_move s i t vars f a)
@@ -170,8 +170,8 @@ module _ (P : Program) (wf : WellFormed P) (s : State) (h : Belongs P s) (z : Si
   unfolding with_object
   make-stays k c b m f =
       rw (lt-ltb s.objects 32 m)
-      (on (grown s c (first_fields (P.method c))) (object-belongs P s h c _ b m wf.fields-4 (first-refers (P.method c) (s.objects + 1))) (same-sized s (grown s c (first_fields (P.method c))) z refl refl) (pushed t (ref_slot s.objects))
-      (moved_pushed P (s.objects + 1) t t (unmoved P (s.objects + 1) t (placed-more P s.objects t p)) _ (lt-ltb s.objects (s.objects + 1) (omega arith)) (ltb-true _ _ (tested _ _ _ f).0) (wf.limit-16 t.class p.class-known)) k)
+      (on (grown s c (first_fields (P.method c))) (object-belongs P s h c _ b m wf.fields_4 (first-refers (P.method c) (s.objects + 1))) (same-sized s (grown s c (first_fields (P.method c))) z refl refl) (pushed t (ref_slot s.objects))
+      (moved_pushed P (s.objects + 1) t t (unmoved P (s.objects + 1) t (placed-more P s.objects t p)) _ (lt-ltb s.objects (s.objects + 1) (omega arith)) (ltb-true _ _ (tested _ _ _ f).0) (wf.limit_16 t.class p.class_known)) k)
 
   new-stays : t.at.0 < method.code → (vars c : ℕ) → c < P.classes → (a : Addr) → a.0 ≤ method.code → (fails : Bool)
       → new_fault s i t method.limit a fails ≡ 0 → Stays P (new_move P s i t vars c a fails)
@@ -184,21 +184,21 @@ module _ (P : Program) (wf : WellFormed P) (s : State) (h : Belongs P s) (z : Si
   unfolding started
   started-placed old c args b f g =
       record {
-        class-known = b;
-        address-first = omega arith;
-        address-last = wf.some-code c b;
-        depth-limit = omega arith;
-        variable-refers = λ v e. at v e (dec_lt v args);
-        stack-refers = λ q e. absurd (omega arith);
+        class_known = b;
+        address_first = omega arith;
+        address_last = wf.some_code c b;
+        depth_limit = omega arith;
+        variable_refers = λ v e. at v e (dec_lt v args);
+        stack_refers = λ q e. absurd (omega arith);
       }
     where
       at : (v : ℕ) → v < (P.method c).vars → Dec (v < args)
           → refers s.objects (get_or (set_below args (from_top t) (replicate 16 zero_slot)) v zero_slot) ≡ true
       at v e (yes d) =
-          rw (set_below_lem (from_top t) (replicate 16 zero_slot) args v zero_slot d (omega (arith, wf.vars-16 c b, length-replicate 16 zero_slot)))
+          rw (set_below_lem (from_top t) (replicate 16 zero_slot) args v zero_slot d (omega (arith, wf.vars_16 c b, length-replicate 16 zero_slot)))
           (entry-refers P s.objects t p v (omega arith))
       at v e (no d) =
-          rw (set-above (from_top t) (replicate 16 zero_slot) args v zero_slot (omega arith), get_or-replicate 16 v zero_slot zero_slot (omega (arith, wf.vars-16 c b)))
+          rw (set-above (from_top t) (replicate 16 zero_slot) args v zero_slot (omega arith), get_or-replicate 16 v zero_slot zero_slot (omega (arith, wf.vars_16 c b)))
           refl
 
   start-stays : t.at.0 < method.code → (c : ℕ) → c < P.classes → start_fault s.classes t (P.method c).args (P.method c).descriptor c ≡ 0
@@ -216,7 +216,7 @@ module _ (P : Program) (wf : WellFormed P) (s : State) (h : Belongs P s) (z : Si
       joined : Belongs P (with_thread s (lowest_free s) begun)
       joined =
           thread-belongs P s h (lowest_free s) begun
-          (λ a. started-placed (thread_at s (lowest_free s)) c (P.method c).args b (wf.args-vars c b) (omega (arith, enough))) (λ o f n. started-live _ t c _)
+          (λ a. started-placed (thread_at s (lowest_free s)) c (P.method c).args b (wf.args_vars c b) (omega (arith, enough))) (λ o f n. started-live _ t c _)
 
   -- by what the table says of the instruction and of the last address
   move-stays : (thread_at s i).live ≡ true → (fails : Bool) (x : Instruction)
@@ -225,7 +225,7 @@ module _ (P : Program) (wf : WellFormed P) (s : State) (h : Belongs P s) (z : Si
   move-stays a fails Inc e f w = inc-stays e f
   move-stays a fails Pop e f w = pop-stays (t.at.0 + 1) (omega arith) (omega arith)
   move-stays a fails Push0 e f w = push-stays e zero_slot refl f
-  move-stays a fails (Load v) e f w = push-stays e.1 (var_of t v.0) (p.variable-refers v.0 e.0) f
+  move-stays a fails (Load v) e f w = push-stays e.1 (var_of t v.0) (p.variable_refers v.0 e.0) f
   move-stays a fails (Store v) e f w = store-stays e.1 v f
   move-stays a fails (If b) e f w = if-stays e.1 b e.0.0 e.0.1
   move-stays a fails (Enter v b) e f w = enter-stays a e.2 method.vars v e.0 b e.1 f w
@@ -243,10 +243,10 @@ step_stays b s i fails h z = step_by (Stays (program_of b)) b s i fails (λ n l.
   where
     go : Moving b s i fails → Stays (program_of b) (move_of (program_of b) s i (thread_at s i) (method_here b s i) fails (instruction_here b s i))
     go m =
-        let p = h.live-placed i m.thread-8 m.live in
-        let e = m.formed.table (thread_at s i).class (thread_at s i).at.0 p.class-known p.address-first p.address-last in
-        move-stays (program_of b) m.formed s h z i m.thread-8 (thread_at s i) m.live p m.live fails (instruction_here b s i)
-        e m.no-fault m.no-wait
+        let p = h.live_placed i m.thread_8 m.live in
+        let e = m.formed.table (thread_at s i).class (thread_at s i).at.0 p.class_known p.address_first p.address_last in
+        move-stays (program_of b) m.formed s h z i m.thread_8 (thread_at s i) m.live p m.live fails (instruction_here b s i)
+        e m.no_fault m.no_wait
 
 pub step-belongs : (b : List ℕ) (s : State) (i : ℕ) (fails : Bool) → Sized s → state_ok (program_of b) s ≡ true
     → (state_ok (program_of b) (step_of b s i fails).state ≡ true) × Sized (step_of b s i fails).state

@@ -50,11 +50,11 @@ marked-length index b p k = go (ltb b (length index / 2))
     go false = refl
 
 -- a row of zeros is an index: every entry is the first place
-zero-at : (n i : ℕ) → at (replicate n 0) i ≡ 0
-zero-at zero i = refl
-zero-at (suc n) zero = refl
-zero-at (suc n) (suc i) = zero-at n i
+zero_at : (n i : ℕ) → at (replicate n 0) i ≡ 0
+zero_at zero i = refl
+zero_at (suc n) zero = refl
+zero_at (suc n) (suc i) = zero_at n i
 
 pub zeros-indexed : (code : List ℕ) (n : ℕ) → Indexed code (replicate n 0)
 zeros-indexed code n =
-    record { each = λ b. rw (zero-at n (2 * b), zero-at n (2 * b + 1)) (stands-first code) }
+    record { each = λ b. rw (zero_at n (2 * b), zero_at n (2 * b + 1)) (stands-first code) }

@@ -116,9 +116,9 @@ module _ (b levels : List ℕ) where
   unfolding verdict_of
   other e n = rw (eight e) (same b levels (verdict 0 (classes b) 0) (verifier.places b) (rw (eight e) at n))
 
-  first-25 : (ordered_verdict_of b levels).number ≡ 25 → Upto b (verifier.places b) (ordered_verdict_of b levels).class (ordered_verdict_of b levels).address
+  first_25 : (ordered_verdict_of b levels).number ≡ 25 → Upto b (verifier.places b) (ordered_verdict_of b levels).class (ordered_verdict_of b levels).address
   unfolding ordered_verdict_of first_broken refuse
-  first-25 q = go (eight_levels levels) q
+  first_25 q = go (eight_levels levels) q
     where
       go : (ok : Bool) → (refuse ok (verdict 26 0 0) searched).number ≡ 25
           → Upto b (verifier.places b) (refuse ok (verdict 26 0 0) searched).class (refuse ok (verdict 26 0 0) searched).address
@@ -127,4 +127,4 @@ module _ (b levels : List ℕ) where
 
 -- THEOREM
 pub agrees : AgreesUpto25
-agrees b levels = record { not_eight = not_eight b levels; other = other b levels; first-25 = first-25 b levels }
+agrees b levels = record { not_eight = not_eight b levels; other = other b levels; first_25 = first_25 b levels }

@@ -58,8 +58,8 @@ module _ (levels : List ℕ) (vars : ℕ) (x : Row) (operand address : ℕ) wher
       (either (eqb k 13) _ _ (record { free = refl })
       (either (eqb k 14) _ _ (record { free = refl }) (record { free = refl }))))))))))))))
 
-  pub no-enter : (opcode : ℕ) → opcode ≢ 7 → order_of levels vars x ((line_of opcode).instruction operand address) ≡ true
-  no-enter opcode n = (line-free opcode n).free
+  pub no_enter : (opcode : ℕ) → opcode ≢ 7 → order_of levels vars x ((line_of opcode).instruction operand address) ≡ true
+  no_enter opcode n = (line-free opcode n).free
 
   pub is-enter : (opcode : ℕ) → opcode ≡ 7 → order_of levels vars x ((line_of opcode).instruction operand address) ≡ enter_order levels vars operand x
   unfolding line_of find table

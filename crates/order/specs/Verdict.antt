@@ -44,7 +44,7 @@ pub record Agrees (b levels : List ℕ) : Type 0 where
   -- otherwise a verdict that isn't 25 is that of `verify`
   pub other : length levels ≡ 8 → (ordered_verdict_of b levels).number ≢ 25 → ordered_verdict_of b levels ≡ verdict_of b
   -- and a 25 comes where `verify` has found nothing broken; that the order is broken there and held before, `OrderedJudges` says
-  pub first-25 : (ordered_verdict_of b levels).number ≡ 25 → Upto b (verifier.places b) (ordered_verdict_of b levels).class (ordered_verdict_of b levels).address
+  pub first_25 : (ordered_verdict_of b levels).number ≡ 25 → Upto b (verifier.places b) (ordered_verdict_of b levels).class (ordered_verdict_of b levels).address
 
 abbrev pub AgreesUpto25 : Type 0
 AgreesUpto25 = (b levels : List ℕ) → Agrees b levels

@@ -114,20 +114,20 @@ module _ (b b' : List ℕ) (R : Readable b) (A : Alike b b') where
   use-there : {c l s : ℕ} → InUse b c l s → InUse b' c l s
   use-there {c} {l} {s} u =
       record {
-        class-known = rw (classes-same b R b' A) u.class-known;
+        class_known = rw (classes-same b R b' A) u.class_known;
         first = u.first;
-        last = rw (class_same b R b' A c u.class-known) u.last;
-        used = rw (class_same b R b' A c u.class-known, depth_is c l u.class-known u.first u.last) u.used;
+        last = rw (class_same b R b' A c u.class_known) u.last;
+        used = rw (class_same b R b' A c u.class_known, depth_is c l u.class_known u.first u.last) u.used;
       }
 
   use-here : {c l s : ℕ} → InUse b' c l s → InUse b c l s
   use-here {c} {l} {s} u =
-      let h : c < classes b = rw (classes-same b R b' A) at u.class-known in
+      let h : c < classes b = rw (classes-same b R b' A) at u.class_known in
       let m : l ≤ (class_at b c).code = rw (class_same b R b' A c h) at u.last in
-      record { class-known = h; first = u.first; last = m; used = rw (class_same b R b' A c h, depth_is c l h u.first m) at u.used }
+      record { class_known = h; first = u.first; last = m; used = rw (class_same b R b' A c h, depth_is c l h u.first m) at u.used }
 
   kind-is : {c l s : ℕ} → InUse b c l s → at b' (place_of b' c l s) ≡ at b (place_of b c l s)
-  kind-is {c} {l} {s} u = rw (place_is c l s u.class-known) (kind-same b R b' A c u.class-known l u.first u.last s (in_row b R u))
+  kind-is {c} {l} {s} u = rw (place_is c l s u.class_known) (kind-same b R b' A c u.class_known l u.first u.last s (in_row b R u))
 
   reference-there : {c l s : ℕ} → Reference b c l s → Reference b' c l s
   reference-there r = record { in_use = use-there r.in_use; kind = kind-is r.in_use ∙ r.kind }
@@ -138,28 +138,28 @@ module _ (b b' : List ℕ) (R : Readable b) (A : Alike b b') where
   pair-here : {p : ℕ} → PairByte b' p → PairByte b p
   pair-here {p} w =
       let r = reference-here w.reference in
-      record { class = w.class; address = w.address; entry = w.entry; reference = r; which = rw (place_is w.class w.address w.entry r.in_use.class-known) at w.which }
+      record { class = w.class; address = w.address; entry = w.entry; reference = r; which = rw (place_is w.class w.address w.entry r.in_use.class_known) at w.which }
 
   pair-there : {p : ℕ} → PairByte b p → PairByte b' p
   pair-there {p} w =
-      record { class = w.class; address = w.address; entry = w.entry; reference = reference-there w.reference; which = rw (place_is w.class w.address w.entry w.reference.in_use.class-known) w.which }
+      record { class = w.class; address = w.address; entry = w.entry; reference = reference-there w.reference; which = rw (place_is w.class w.address w.entry w.reference.in_use.class_known) w.which }
 
   choice-there : (x : List ℕ) → Choice b x → Choice b' x
   choice-there x C =
       record {
         alike = record { long = C.alike.long ∙ sym A.long; bytes = C.alike.bytes; others = λ p f. let g : PairByte b p → ⊥ = λ w. f (pair-there w) in C.alike.others p g ∙ sym (A.others p g) };
-        dips = λ c l s r. let q = reference-here r in rw (place_is c l s q.in_use.class-known) (C.dips c l s q);
-        least-end = λ c l s r. let q = reference-here r in rw (place_is c l s q.in_use.class-known) (C.least-end c l s q);
-        ends = λ c l s r. let q = reference-here r in rw (place_is c l s q.in_use.class-known) (C.ends c l s q);
+        dips = λ c l s r. let q = reference-here r in rw (place_is c l s q.in_use.class_known) (C.dips c l s q);
+        least_end = λ c l s r. let q = reference-here r in rw (place_is c l s q.in_use.class_known) (C.least_end c l s q);
+        ends = λ c l s r. let q = reference-here r in rw (place_is c l s q.in_use.class_known) (C.ends c l s q);
       }
 
   choice-here : (x : List ℕ) → Choice b' x → Choice b x
   choice-here x C =
       record {
         alike = record { long = C.alike.long ∙ A.long; bytes = C.alike.bytes; others = λ p f. C.alike.others p (λ w. f (pair-here w)) ∙ A.others p f };
-        dips = λ c l s r. rw (place_is c l s r.in_use.class-known) at (C.dips c l s (reference-there r));
-        least-end = λ c l s r. rw (place_is c l s r.in_use.class-known) at (C.least-end c l s (reference-there r));
-        ends = λ c l s r. rw (place_is c l s r.in_use.class-known) at (C.ends c l s (reference-there r));
+        dips = λ c l s r. rw (place_is c l s r.in_use.class_known) at (C.dips c l s (reference-there r));
+        least_end = λ c l s r. rw (place_is c l s r.in_use.class_known) at (C.least_end c l s (reference-there r));
+        ends = λ c l s r. rw (place_is c l s r.in_use.class_known) at (C.ends c l s (reference-there r));
       }
 
   least-there : (x : List ℕ) → Least b x → Least b' x

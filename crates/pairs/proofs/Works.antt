@@ -74,7 +74,7 @@ module _ (b : List ℕ) (R : Readable b) (bytes : (p : ℕ) → at b p < 256) wh
         record {
           alike = cleared-alike;
           dips = λ c l s r. rw (low c l s r).dip (omega arith);
-          least-end = λ c l s r. rw (low c l s r).end (omega arith);
+          least_end = λ c l s r. rw (low c l s r).end (omega arith);
           ends = λ c l s r. rw (low c l s r).end (omega arith);
         }
 
@@ -87,7 +87,7 @@ module _ (b : List ℕ) (R : Readable b) (bytes : (p : ℕ) → at b p < 256) wh
           where
             which : (p ≡ place_of b w.class w.address w.entry + 2) ⊎ (p ≡ place_of b w.class w.address w.entry + 3) → at x p ≤ at y p
             which (inl e) = rw (e, (low _ _ _ w.reference).dip) (omega arith)
-            which (inr e) = rw (e, (low _ _ _ w.reference).end) (D.least-end _ _ _ w.reference)
+            which (inr e) = rw (e, (low _ _ _ w.reference).end) (D.least_end _ _ _ w.reference)
 
         go : Dec (at y p < at x p) → at x p ≤ at y p
         go (no h) = omega arith

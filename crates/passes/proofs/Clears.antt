@@ -107,11 +107,11 @@ module _ (k : Class) (l m : ℕ) (x₀ : List ℕ) (em : m ≡ k.vars + depth_at
   pub depth_is : (c : ℕ) (b : List ℕ) → RowThen c k l x₀ b → m ≡ (class_at b c).vars + depth_of b c l
   depth_is c b g =
       let h : m ≡ (class_at b c).vars + depth_at (part_of x₀ (class_at b c)) (row_start (class_at b c) l) (class_at b c).vars = rw g.0.class at em in
-      rw (← depth_same b g.1.readable x₀ g.1.alike c g.0.class-known l g.0.first g.0.last) h
+      rw (← depth_same b g.1.readable x₀ g.1.alike c g.0.class_known l g.0.first g.0.last) h
 
   pub placed-in : (c : ℕ) (b : List ℕ) → RowThen c k l x₀ b → (s : ℕ) → s < m → GivenPlace c k l s b
   placed-in c b g s h =
-      record { class = g.0.class; in_use = record { class-known = g.0.class-known; first = g.0.first; last = g.0.last; used = rw (depth_is c b g) at h } }
+      record { class = g.0.class; in_use = record { class_known = g.0.class_known; first = g.0.first; last = g.0.last; used = rw (depth_is c b g) at h } }
 
   pub row-begins : (c : ℕ) → Cleared (RowThen c k l x₀) (Entries c l 0) x₀ x₀
   row-begins c = cleared-none (RowThen c k l x₀) (Entries c l 0) x₀ (λ c' l' s' t. omega (arith, t.2))
@@ -158,7 +158,7 @@ module _ (c : ℕ) (k : Class) (x₀ : List ℕ) (ek : k ≡ class_at x₀ c) wh
   class-goes-on i x x' h a d =
       cleared-then (ClassThen c x₀) (Rows c i) (TheRow c (i + 1)) (Rows c (i + 1)) last x₀ x x' a
       (cleared-from (GivenRow c k (i + 1)) (ClassThen c x₀) (TheRow c (i + 1)) (TheRow c (i + 1)) x
-      (λ b g L. record { class-known = g.0; class = class-is b g; first = omega arith; last = rw (← class-is b g) (omega arith) }) (λ b g L c' l' s' r t. t) x' (d c))
+      (λ b g L. record { class_known = g.0; class = class-is b g; first = omega arith; last = rw (← class-is b g) (omega arith) }) (λ b g L c' l' s' r t. t) x' (d c))
     where
       last : (c' l' s' : ℕ) → Rows c (i + 1) c' l' s' → Rows c i c' l' s' ⊎ TheRow c (i + 1) c' l' s'
       last c' l' s' t = go (dec_lt i l')
@@ -204,4 +204,4 @@ module _ (n : ℕ) (x₀ : List ℕ) (en : n ≡ classes x₀) where
 
   pub all_end : (c : ℕ) (x : List ℕ) → n ≤ c → Cleared (Then x₀) (Classes c) x₀ x → Cleared Anything Every x₀ x
   all_end c x h a =
-      cleared-from (Then x₀) Anything (Classes c) Every x₀ (λ b g L. L) (λ b g L c' l' s' r t. omega (arith, r.in_use.class-known, count-is b L)) x a
+      cleared-from (Then x₀) Anything (Classes c) Every x₀ (λ b g L. L) (λ b g L c' l' s' r t. omega (arith, r.in_use.class_known, count-is b L)) x a

@@ -166,7 +166,7 @@ module _ (b : List ℕ) (R : Readable b) (x x' : List ℕ) (C : Choice b x) (C' 
 
         go : Dec (s < k.vars + depth_of b c m) → Dec (at b (P s) ≡ 3) → is_nullable (entry x s) ≡ is_nullable (entry x' s)
         go (yes u) (yes e) =
-            let q : Reference b c m s = record { in_use = record { class-known = lc; first = low; last = high; used = u }; kind = e } in
+            let q : Reference b c m s = record { in_use = record { class_known = lc; first = low; last = high; used = u }; kind = e } in
             rw (reference-entry b R c lc m low high x C s q, reference-entry b R c lc m low high x' C' s q)
         go (yes u) (no e) = plain (λ q. e q.kind)
         go (no u) e = plain (λ q. u q.in_use.used)

@@ -224,7 +224,7 @@ module _ (n c : ℕ) (k : Class) (x₀ : List ℕ) (ek : k ≡ class_at x₀ c) 
     given : (b : List ℕ) → GivenClass n c b → Lower b x₀ → Given n c k l b
     given b h L =
         let e = class-is c k x₀ ek b (h.1, reads L) in
-        record { count = h.0; row = record { class-known = h.1; class = e; first = low; last = rw e at high } }
+        record { count = h.0; row = record { class_known = h.1; class = e; first = low; last = rw e at high } }
 
     -- a row without a mark has what is asked, still
     still-clean : (o ≡ 2 → ⊥) → (b : List ℕ) → GivenClass n c b → Lower b x₀ → (j s : ℕ) → is_marked m' j ≡ false → Reference b c j s → Enough b x' c j s
@@ -315,7 +315,7 @@ class-long n c k x ek h =
     }
   where
     few : (b : List ℕ) → GivenClass n c b → Lower b x → ⊥
-    few b g L = omega (arith, (class-limits b (good b L.readable) c g.1).code-256, ap (λ (i : Class). i.code) (class-is c k x ek b (g.1, reads L)))
+    few b g L = omega (arith, (class-limits b (good b L.readable) c g.1).code_256, ap (λ (i : Class). i.code) (class-is c k x ek b (g.1, reads L)))
 
 pub settled-zero : {o : ℕ} → o ≤ 2 → (o ≡ 1 → ⊥) → (o ≡ 2 → ⊥) → o ≡ 0
 settled-zero h e f = omega arith
@@ -362,7 +362,7 @@ module _ (n : ℕ) (x₀ : List ℕ) (en : n ≡ classes x₀) where
   all_end c x h a =
       record {
         keeps = a.keeps;
-        met = λ e b L c' l s r. a.met b L c' l s (omega (arith, r.in_use.class-known, count-is n x₀ en b (reads L))) r;
+        met = λ e b L c' l s r. a.met b L c' l s (omega (arith, r.in_use.class_known, count-is n x₀ en b (reads L))) r;
         never = λ e. absurd (omega arith);
         long = a.long;
         answer = omega arith;

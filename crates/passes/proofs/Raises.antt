@@ -58,7 +58,7 @@ raise-lower b x c l s r q e h ld le L =
     record {
       readable = L.readable;
       bytes = L.bytes;
-      choice = two_choice b x c l s r v w h L.readable (greater-upto _ _ _ (L.choice.dips c l s r) ld) (omega (arith, (greater-from (at x (P + 3)) q.end).0, L.choice.least-end c l s r)) (greater-upto _ _ _ (L.choice.ends c l s r) le) L.choice;
+      choice = two_choice b x c l s r v w h L.readable (greater-upto _ _ _ (L.choice.dips c l s r) ld) (omega (arith, (greater-from (at x (P + 3)) q.end).0, L.choice.least_end c l s r)) (greater-upto _ _ _ (L.choice.ends c l s r) le) L.choice;
       below = λ y D A.
           let f = forced-entry b L.readable x L.choice c l s r y D A (L.below y D A) in
           by_byte x P v w h (λ p n. n ≤ at y p)
@@ -129,12 +129,12 @@ module _ (b x : List ℕ) (c l s : ℕ) (r : Reference b c l s) (q : Pair) (h : 
 
   need-kept : (c' l' s' : ℕ) → Reference b c' l' s' → (c' ≡ c → Reads b c' l' l → ⊥) → need_at b x c' l' s' ≡ need_at b x' c' l' s'
   need-kept c' l' s' r' f =
-      need-stays b L.readable x x' L.choice L'.choice c' r'.in_use.class-known l' s' r'.in_use.first r'.in_use.last
-      (λ m low high w i t u v. same_bytes c' m i t r'.in_use.class-known low high u v (λ d e. f d (rw e at w)))
+      need-stays b L.readable x x' L.choice L'.choice c' r'.in_use.class_known l' s' r'.in_use.first r'.in_use.last
+      (λ m low high w i t u v. same_bytes c' m i t r'.in_use.class_known low high u v (λ d e. f d (rw e at w)))
 
   enough-kept : (c' l' s' : ℕ) → Reference b c' l' s' → (c' ≡ c → Reads b c' l' l → ⊥) → Enough b x c' l' s' → Enough b x' c' l' s'
   enough-kept c' l' s' r' f =
-      enough-stays b L.readable x x' L.choice L'.choice c' r'.in_use.class-known l' s' (need-kept c' l' s' r' f) (raise-up x (place_of b c l s) q h)
+      enough-stays b L.readable x x' L.choice L'.choice c' r'.in_use.class_known l' s' (need-kept c' l' s' r' f) (raise-up x (place_of b c l s) q h)
 
   -- .. and so has this one, where it does not read itself
   enough-raised : q ≡ need_at b x c l s → (Reads b c l l → ⊥) → Enough b x' c l s
@@ -161,7 +161,7 @@ module _ (n c : ℕ) (k : Class) (l : ℕ) (i : Instruction) (s : ℕ) (x : List
         eq
         ∙ rw (g.count, g.place.class, g.instruction)
         (need-same (program_of x) (program_of b) (classes b) (fields_of b) (agree b L.readable x L.choice) (class_at b c).vars (class_at b c).code (row_at (classes b) (class_at b c) (part_of x (class_at b c))) l _ s
-        (in_table b L.readable c l g.place.in_use.class-known g.place.in_use.first g.place.in_use.last))
+        (in_table b L.readable c l g.place.in_use.class_known g.place.in_use.first g.place.in_use.last))
 
     pub entry-raised : ((r : ℕ) → at x r < 256) → (o : ℕ) (x' : List ℕ) → Raise x p q o x' → Raised G c l (TheSlot s) x o x'
     entry-raised small _ _ (still f) =
@@ -338,7 +338,7 @@ module _ (n : ℕ) (k : Class) (l m : ℕ) (x₀ : List ℕ) (i : Instruction) (
   unfolding instruction_at
   instruction-is c b g =
       let h : i ≡ instruction_at (class_at b c) (part_of x₀ (class_at b c)) l = rw g.0.class at ei in
-      h ∙ ap decoded (instruction-same b g.1.readable x₀ g.1.alike c g.0.class-known l g.0.first g.0.last)
+      h ∙ ap decoded (instruction-same b g.1.readable x₀ g.1.alike c g.0.class_known l g.0.first g.0.last)
 
   pub row-begins : (c : ℕ) → Raised (GivenThen n c k l x₀) c l (SlotsBelow 0) x₀ 0 x₀
   row-begins c = raised-none (GivenThen n c k l x₀) c l (SlotsBelow 0) x₀ (λ s t. omega arith)

@@ -63,7 +63,7 @@ module _ (b x : List ℕ) (c l s : ℕ) (r : Reference b c l s) (v w : ℕ) (h :
       record {
         alike = two-alike (omega arith) (omega arith) C.alike;
         dips = λ c' l' s' r'. other-dip R (λ n. n ≤ max_dip) lv c' l' s' r' (C.dips c' l' s' r');
-        least-end = λ c' l' s' r'. other-end R (λ n. min_end ≤ n) mw c' l' s' r' (C.least-end c' l' s' r');
+        least_end = λ c' l' s' r'. other-end R (λ n. min_end ≤ n) mw c' l' s' r' (C.least_end c' l' s' r');
         ends = λ c' l' s' r'. other-end R (λ n. n ≤ max_end) lw c' l' s' r' (C.ends c' l' s' r');
       }
 
@@ -76,7 +76,7 @@ module _ (b x : List ℕ) (c l s : ℕ) (r : Reference b c l s) (v w : ℕ) (h :
     where
       never : (u : ℕ) → u < 4 → place_of b c' m s' + t ≡ place_of b c l s + u → ⊥
       never u lu e =
-          go c' lc high ls e f (same_class b R c c' (place_of b c l s + u) r.in_use.class-known lc (inside b R u lu r.in_use)
+          go c' lc high ls e f (same_class b R c c' (place_of b c l s + u) r.in_use.class_known lc (inside b R u lu r.in_use)
           (omega arith, omega (arith, place-high (class_at b c') m low high s' t ls lt)))
         where
           go : (d : ℕ) → d < classes b → m ≤ (class_at b d).code → s' < (class_at b d).vars + (class_at b d).limit
@@ -93,10 +93,10 @@ module _ (b x : List ℕ) (L : Reading b x) (c l s : ℕ) (u : InUse b c l s) wh
   pub within : place_of b c l s + 3 < length x
   within =
       let i = inside b L.readable 3 (omega arith) u in
-      omega (arith, i.1, extent b L.readable c u.class-known, bundle-long b L.readable, L.alike.long)
+      omega (arith, i.1, extent b L.readable c u.class_known, bundle-long b L.readable, L.alike.long)
 
   kind-of : at x (place_of b c l s) ≡ at b (place_of b c l s)
-  kind-of = kind-same b L.readable x L.alike c u.class-known l u.first u.last s (in_row b L.readable u)
+  kind-of = kind-same b L.readable x L.alike c u.class_known l u.first u.last s (in_row b L.readable u)
 
   pub a-reference : at x (place_of b c l s) ≡ 3 → Reference b c l s
   a-reference e = record { in_use = u; kind = sym kind-of ∙ e }

@@ -105,7 +105,7 @@ module _ (G : List ℕ → Type 0) where
 
 -- what the code hands on, of class c of the bundle as it came: its directory numbers k, an address, an entry in use; the class count and the instruction
 pub record GivenRow (c : ℕ) (k : Class) (l : ℕ) (b : List ℕ) : Type 0 where
-  pub class-known : c < classes b
+  pub class_known : c < classes b
   pub class : k ≡ class_at b c
   pub first : 1 ≤ l
   pub last : l ≤ (class_at b c).code

@@ -34,7 +34,7 @@ use Rattle.soundness.proofs.Slots.{slot-var, slot-novar, slot-stack, slot-nostac
 use Rattle.soundness.proofs.Values.{value-var}
 use Rattle.soundness.proofs.Stands.{variable-kind}
 use Rattle.soundness.proofs.Accepted.{Accepted}
-use Rattle.soundness.proofs.Invariant.{vars-16, limit-16, depth-limit, holder}
+use Rattle.soundness.proofs.Invariant.{vars_16, limit_16, depth_limit, holder}
 use Rattle.progress.specs.Progress.{Lives}
 use Rattle.progress.proofs.Waits.{Waiting}
 
@@ -100,20 +100,20 @@ module _ (P : Typed) (A : Accepted P) (s : State) (inv : Inv P s) where
     v = w.variable.0
 
     v16 : vars t ≤ 16
-    v16 = vars-16 P A s.objects (class_of s) (count_of s.counts t) (thread_at s t) live
+    v16 = vars_16 P A s.objects (class_of s) (count_of s.counts t) (thread_at s t) live
 
     d16 : (thread_at s t).depth ≤ 16
     d16 =
         omega (
           arith,
-          depth-limit P A s.objects (class_of s) (count_of s.counts t) (thread_at s t) live,
-          limit-16 P A s.objects (class_of s) (count_of s.counts t) (thread_at s t) live,
+          depth_limit P A s.objects (class_of s) (count_of s.counts t) (thread_at s t) live,
+          limit_16 P A s.objects (class_of s) (count_of s.counts t) (thread_at s t) live,
         )
 
     var-known : v < vars t
     var-known =
         let a = live.address in
-        let h : InstructionFits P.program.classes (λ d. (P.program.method d).fields) (vars t) (P.program.method (thread_at s t).class).code (thread_at s t).at.0 (Enter w.variable w.handler) = rw w.enters at (A.formed.table (thread_at s t).class (thread_at s t).at.0 a.class-known a.first a.last) in
+        let h : InstructionFits P.program.classes (λ d. (P.program.method d).fields) (vars t) (P.program.method (thread_at s t).class).code (thread_at s t).at.0 (Enter w.variable w.handler) = rw w.enters at (A.formed.table (thread_at s t).class (thread_at s t).at.0 a.class_known a.first a.last) in
         h.0
 
     abbrev lock : Entry
@@ -137,7 +137,7 @@ module _ (P : Typed) (A : Accepted P) (s : State) (inv : Inv P s) where
         (x.1, x.2, x.3)
 
     pub wanted-32 : wanted < 32
-    wanted-32 = omega (arith, wanted-is.0, inv.whole.objects-32)
+    wanted-32 = omega (arith, wanted-is.0, inv.whole.objects_32)
 
   -- ---- a holder does not wait for what it holds
   held-free : (u o : ℕ) → u < 8 → o < 32 → 0 < count_of s.counts u o → others_free s.counts u o ≡ true
@@ -146,7 +146,7 @@ module _ (P : Typed) (A : Accepted P) (s : State) (inv : Inv P s) where
     where
       go : (j : ℕ) → j < 8 → Dec (j ≡ u) → free_of s.counts u o j ≡ true
       go j l (yes q) = rw (eq-eqb j u q)
-      go j l (no n) = rw (ne_eqb j u n) (eq-eqb _ _ (inv.whole.one-holder u j o lu l lo (λ q. n (sym q)) h))
+      go j l (no n) = rw (ne_eqb j u n) (eq-eqb _ _ (inv.whole.one_holder u j o lu l lo (λ q. n (sym q)) h))
 
   -- a thread that holds something is live
   holder-lives : (u o : ℕ) → u < 8 → o < 32 → 0 < count_of s.counts u o → Lives s u

@@ -41,7 +41,7 @@ module _ (b : List ℕ) (e : (verdict_of b).number ≡ 0) (s : State) (inv : Inv
     where
       go : Dec (t < 8) → t < 8
       go (yes h) = h
-      go (no h) = never lv (ap (λ (x : Thread). x.live) (read_past s.threads t idle (omega (arith, inv.whole.threads-8))))
+      go (no h) = never lv (ap (λ (x : Thread). x.live) (read_past s.threads t idle (omega (arith, inv.whole.threads_8))))
 
   -- a live thread goes, or waits
   decide : (t : ℕ) → t < 8 → Lives s t → Goes b s t ⊎ Waiting s t (thread_at s t) (next b s t)

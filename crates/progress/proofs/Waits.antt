@@ -30,7 +30,7 @@ use Rattle.machine.proofs.Kept.{moves}
 use Rattle.soundness.specs.Sound.{next}
 use Rattle.soundness.proofs.Verified.{accepted}
 use Rattle.soundness.specs.Invariant.{Inv}
-use Rattle.soundness.proofs.Steps.{no-fault}
+use Rattle.soundness.proofs.Steps.{no_fault}
 use Rattle.progress.specs.Progress.{Lives}
 
 -- ---- an instruction x of thread i, which is t, that waits for an object
@@ -85,7 +85,7 @@ module _ (b : List ℕ) (e : (verdict_of b).number ≡ 0) (s : State) (inv : Inv
       refuses Says s _ 17 _ (λ _. another 17 (omega arith))
       (λ _. refuses Says s _ 18 _ (λ _. another 18 (omega arith))
       (λ _. refuses Says s _ 5 _ (λ _. another 5 (omega arith))
-      (λ _. draws Says s _ _ (λ n. absurd (n (no-fault (typed_of b) (accepted b e) s inv t lt lv fails)))
+      (λ _. draws Says s _ _ (λ n. absurd (n (no_fault (typed_of b) (accepted b e) s inv t lt lv fails)))
       (λ _. draws Says s _ _ (λ n. record { says = λ q. q })
       (λ _. record { says = λ q. absurd (omega (arith, q, (moves (program_of b) s t (thread_at s t) (method_here b s t) fails (next b s t)).small)) })))))
 

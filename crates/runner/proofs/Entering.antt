@@ -39,7 +39,7 @@ use Rattle.runner.specs.Locks.{Locked, locked, held_by_other, counted_in, entere
 use Rattle.runner.specs.Poised.{Poised, Turned}
 use Rattle.runner.proofs.Stores.{threads-set, sized_set}
 use Rattle.runner.proofs.Others.{held-by-other}
-use Rattle.runner.proofs.Known.{test-holds, test-rest, F, M, X, few-vars, address-256, frame-36, placed-here}
+use Rattle.runner.proofs.Known.{test-holds, test-rest, F, M, X, few-vars, address-256, frame_36, placed-here}
 use Rattle.runner.proofs.Steps.{framed, quiet, listed, goes, waits, threw}
 
 -- the thread, and the word in its variable v
@@ -76,12 +76,12 @@ module _ (b : List ℕ) (table : List (List ℕ)) (m : Memory) (i : ℕ) (z : Po
 
     pub object-32 : object_in (Word m i v) < 32
     object-32 =
-        omega (arith, object-is, refers-object m.objects (var_of (Here m i) v.0) ((placed-here b table m i z).variable-refers v.0 lv) r, z.running.inv.whole.objects-32)
+        omega (arith, object-is, refers-object m.objects (var_of (Here m i) v.0) ((placed-here b table m i z).variable_refers v.0 lv) r, z.running.inv.whole.objects_32)
 
     others-are : held_by_other m.held i (object_in (Word m i v)) ≡ not (others_free m.counts i (object_in (Word m i v)))
     others-are =
-        held-by-other m.held m.counts i (object_in (Word m i v)) z.thread-8 (λ j l. z.running.inv.whole.worded j (object_in (Word m i v)) l object-32)
-        (λ j l n k. z.running.inv.whole.one-holder i j (object_in (Word m i v)) z.thread-8 l object-32 (λ q. n (sym q)) k)
+        held-by-other m.held m.counts i (object_in (Word m i v)) z.thread_8 (λ j l. z.running.inv.whole.worded j (object_in (Word m i v)) l object-32)
+        (λ j l n k. z.running.inv.whole.one_holder i j (object_in (Word m i v)) z.thread_8 l object-32 (λ q. n (sym q)) k)
 
     -- the count becomes n
     counted-turned : (x : Instruction) → X b table m i z ≡ x → wait_of (state_from m) i (Here m i) x ≡ 0 → (n to : ℕ) → to ≡ address_in (F b table m i z) + 1
@@ -91,9 +91,9 @@ module _ (b : List ℕ) (table : List (List ℕ)) (m : Memory) (i : ℕ) (z : Po
         0 i fails
     counted-turned x q w n to t e =
         let h : Is (went_in (F b table m i z) to) (with_at (Here m i) (address_in (F b table m i z) + 1)) =
-        rw t (went-is (F b table m i z) (Here m i) (address_in (F b table m i z) + 1) (record { sized = frame-36 b table m i z; thread = refl }) (omega (arith, address-256 b table m i z))) in
+        rw t (went-is (F b table m i z) (Here m i) (address_in (F b table m i z) + 1) (record { sized = frame_36 b table m i z; thread = refl }) (omega (arith, address-256 b table m i z))) in
         goes b table m i z fails x q w _ 0
-        (sized_set m.frames i (went_in (F b table m i z) to) z.running.sized.frames-8 z.thread-8 m.fields z.running.sized h.sized)
+        (sized_set m.frames i (went_in (F b table m i z) to) z.running.sized.frames_8 z.thread_8 m.fields z.running.sized h.sized)
         (e
         ∙ ap (λ (ts : List Thread). record {
           answer = 0;
@@ -106,7 +106,7 @@ module _ (b : List ℕ) (table : List (List ℕ)) (m : Memory) (i : ℕ) (z : Po
             held = set m.held i (marked (at m.held i) (object_in (Word m i v)) n);
           };
         })
-        (sym (threads-set m.frames i (went_in (F b table m i z) to) z.running.sized.frames-8 z.thread-8 _ h.thread)))
+        (sym (threads-set m.frames i (went_in (F b table m i z) to) z.running.sized.frames_8 z.thread_8 _ h.thread)))
 
 -- ---- monitorenter
 module _ (b : List ℕ) (table : List (List ℕ)) (m : Memory) (i : ℕ) (z : Poised b table m i) (fails : Bool) (v : Var) (h : Addr) (q : X b table m i z ≡ Enter v h) where
@@ -135,7 +135,7 @@ module _ (b : List ℕ) (table : List (List ℕ)) (m : Memory) (i : ℕ) (z : Po
 
   pub enter-known : (i < 8) × (leb 4294967552 (var_in (F b table m i z) v.0) ≡ false
       → (object_in (var_in (F b table m i z) v.0) < 32) × (at m.counts (i * 32 + object_in (var_in (F b table m i z) v.0)) < 65535))
-  enter-known = (z.thread-8, λ e. enter-bounds (not_null e))
+  enter-known = (z.thread_8, λ e. enter-bounds (not_null e))
 
   pub enter-turned : (r : ℕ) (p' k' g' : List ℕ) (vars to : ℕ) → vars ≡ (M b table m i z).vars → to ≡ address_in (F b table m i z) + 1
       → locked r p' k' g' ≡ entered_in (F b table m i z) m.counts m.held i vars v.0 h.0 to
@@ -198,7 +198,7 @@ module _ (b : List ℕ) (table : List (List ℕ)) (m : Memory) (i : ℕ) (z : Po
       (test-rest (is_ref (var_of (Here m i) v.0)) 13 _ (omega arith) (quiet b table m i z fails (Exit v) q)))
 
   pub exit-known : (i < 8) × (object_in (var_in (F b table m i z) v.0) < 32) × (1 ≤ at m.counts (i * 32 + object_in (var_in (F b table m i z) v.0)))
-  exit-known = (z.thread-8, object-32 b table m i z fails v exit-var exit-lock, let k = holds in let e = object-is b table m i z fails v exit-var exit-lock in rw e (omega (arith, k)))
+  exit-known = (z.thread_8, object-32 b table m i z fails v exit-var exit-lock, let k = holds in let e = object-is b table m i z fails v exit-var exit-lock in rw e (omega (arith, k)))
 
   pub exit-turned : (p' k' g' : List ℕ) (to : ℕ) → to ≡ address_in (F b table m i z) + 1
       → locked 0 p' k' g' ≡ left_in (F b table m i z) m.counts m.held i v.0 to

@@ -48,7 +48,7 @@ use Rattle.runner.proofs.Stores.{threads-set, sized_set, fields_made, sized-made
 
 pub record Halfway (b xs : List ℕ) (table : List (List ℕ)) (m : Memory) (steps n : ℕ) : Type 0 where
   pub running : Running b table m
-  pub last-state : run b (state_from m) (steps_in (drop n xs)) ≡ reached b (steps_in xs)
+  pub last_state : run b (state_from m) (steps_in (drop n xs)) ≡ reached b (steps_in xs)
   pub number : steps + taken b (state_from m) (steps_in (drop n xs)) ≡ taken b (fresh_of b).state (steps_in xs)
   pub bound : steps ≤ n
 
@@ -91,7 +91,7 @@ module _ (b : List ℕ) (e : (verdict_of b).number ≡ 0) where
   start-sized : Sized start.frames start.fields
   start-sized =
       sized_set none 0 born refl (omega arith) firsts
-      (sized-made b (exception b) 0 (replicate 128 0) refl (omega arith) none (record { frames-8 = refl; frame-36 = frame-short; fields-128 = refl })) born-36
+      (sized-made b (exception b) 0 (replicate 128 0) refl (omega arith) none (record { frames_8 = refl; frame_36 = frame-short; fields_128 = refl })) born-36
 
   fresh-memory : state_from start ≡ fresh_state (program_of b)
   unfolding program_of
@@ -142,7 +142,7 @@ module _ (b : List ℕ) (e : (verdict_of b).number ≡ 0) where
           sized = start-sized;
           inv = subst (λ (s : State). Inv (typed_of b) s) (sym fresh-memory) (inv-fresh (typed_of b) (judged b e));
         };
-        last-state = ap (λ (s : State). run b s (steps_in xs)) q;
+        last_state = ap (λ (s : State). run b s (steps_in xs)) q;
         number = from_zero _ _ (ap (λ (s : State). taken b s (steps_in xs)) q);
         bound = omega arith;
       }
@@ -210,7 +210,7 @@ module _ (b xs : List ℕ) (table : List (List ℕ)) (m : Memory) (steps n : ℕ
           sized = t.sized;
           inv = subst (λ (s : State). Inv (typed_of b) s) (sym state-is) (inv-after b w.running.accepted (state_from m) w.running.inv (step_in (at xs n)));
         };
-        last-state = ap (λ (s : State). run b s (steps_in (drop (n + 1) xs))) state-is ∙ sym rest-state ∙ w.last-state;
+        last_state = ap (λ (s : State). run b s (steps_in (drop (n + 1) xs))) state-is ∙ sym rest-state ∙ w.last_state;
         number = omega (arith, w.number, rest-number);
         bound = omega (arith, w.bound, counted-one x);
       }
@@ -221,7 +221,7 @@ pub arrives : (b xs : List ℕ) (table : List (List ℕ)) (m : Memory) (steps n 
 unfolding run taken steps_in
 arrives b xs table m steps n w e =
     let d : drop n xs ≡ [] = rw e (drop-length xs) in
-    (rw d at w.last-state, omega (arith, rw d at w.number))
+    (rw d at w.last_state, omega (arith, rw d at w.number))
 
 pub ran-accepted : (b xs : List ℕ) → (verdict_of b).number ≡ 0
     → record { answer = 0; verdict = verdict_of b; state = reached b (steps_in xs); steps = taken b (fresh_of b).state (steps_in xs) } ≡ ran_of b xs

@@ -36,9 +36,9 @@ use Rattle.turns.specs.Exec.{run_of}
 use Rattle.machine.specs.Machine.{readable, step_of}
 use Rattle.soundness.proofs.Accepted.{Accepted}
 use Rattle.soundness.specs.Invariant.{Live}
-use Rattle.soundness.proofs.Invariant.{placed, vars-16, limit-16, depth-limit, state-ok}
+use Rattle.soundness.proofs.Invariant.{placed, vars_16, limit_16, depth_limit, state-ok}
 use Rattle.soundness.proofs.Verified.{accepted as judged}
-use Rattle.soundness.proofs.Steps.{no-fault}
+use Rattle.soundness.proofs.Steps.{no_fault}
 use Rattle.memory.specs.Frames.{live_in, class_in, address_in, depth_in, thread_in}
 use Rattle.memory.proofs.Tab.{tab-at}
 use Rattle.runner.specs.Table.{row_of}
@@ -109,59 +109,59 @@ module _ (b : List ℕ) (table : List (List ℕ)) (m : Memory) (i : ℕ) (z : Po
   A = accepts b table m z.running
 
   here-is : thread_of S i ≡ T
-  here-is = thread-is b table m z.running i z.thread-8
+  here-is = thread-is b table m z.running i z.thread_8
 
   awake : (thread_of S i).live ≡ true
   awake = subst (λ (t : Thread). t.live ≡ true) (sym here-is) z.live
 
   alive : Live (typed_of b) m.objects (class_of S) (count_of m.counts i) T
-  alive = subst (λ (t : Thread). Live (typed_of b) m.objects (class_of S) (count_of m.counts i) t) here-is ((z.running.inv.thread i z.thread-8).live awake)
+  alive = subst (λ (t : Thread). Live (typed_of b) m.objects (class_of S) (count_of m.counts i) t) here-is ((z.running.inv.thread i z.thread_8).live awake)
 
   -- THEOREM: it draws no fault
   pub no-fault-here : (fails : Bool) → fault_of P S i T M fails X ≡ 0
   unfolding program_of
   no-fault-here fails =
       subst (λ (t : Thread). fault_of P S i t (P.method t.class) fails ((P.method t.class).instruction t.at.0) ≡ 0) here-is
-      (no-fault (typed_of b) A S z.running.inv i z.thread-8 awake fails)
+      (no_fault (typed_of b) A S z.running.inv i z.thread_8 awake fails)
 
   -- THEOREM: its step waits, or is its move
   pub step_is : (fails : Bool) → step_of b S i fails ≡ unless_drawn (wait_of S i T X) S (move_of P S i T M fails X)
   unfolding step_of run_of
   step_is fails =
       went_on_lem _ _ (can-read b table m z.running) ∙ went_on_lem _ _ (belongs-here b table m z.running)
-      ∙ went_on_lem _ _ (rw (lt-ltb i 8 z.thread-8) awake)
+      ∙ went_on_lem _ _ (rw (lt-ltb i 8 z.thread_8) awake)
       ∙ ap (λ (t : Thread). run_of P S i t fails) here-is
       ∙ none-drawn _ S _ (no-fault-here fails)
 
   known-class : class_in F < P.classes
-  known-class = alive.address.class-known
+  known-class = alive.address.class_known
 
-  pub class-8 : class_in F < 8
-  class-8 = omega (arith, known-class, A.formed.few-classes)
+  pub class_8 : class_in F < 8
+  class_8 = omega (arith, known-class, A.formed.few_classes)
 
   pub formed : WellFormed P
   formed = A.formed
 
   pub few-vars : M.vars ≤ 16
-  few-vars = vars-16 (typed_of b) A m.objects (class_of S) (count_of m.counts i) T alive
+  few-vars = vars_16 (typed_of b) A m.objects (class_of S) (count_of m.counts i) T alive
 
   pub few-places : M.limit ≤ 16
-  few-places = limit-16 (typed_of b) A m.objects (class_of S) (count_of m.counts i) T alive
+  few-places = limit_16 (typed_of b) A m.objects (class_of S) (count_of m.counts i) T alive
 
   pub depth-16 : depth_in F ≤ 16
-  depth-16 = omega (arith, few-places, depth-limit (typed_of b) A m.objects (class_of S) (count_of m.counts i) T alive)
+  depth-16 = omega (arith, few-places, depth_limit (typed_of b) A m.objects (class_of S) (count_of m.counts i) T alive)
 
   pub short-code : M.code ≤ 256
-  short-code = A.formed.code-256 (class_in F) known-class
+  short-code = A.formed.code_256 (class_in F) known-class
 
-  pub address-first : 1 ≤ address_in F
-  address-first = alive.address.first
+  pub address_first : 1 ≤ address_in F
+  address_first = alive.address.first
 
   pub address-256 : address_in F ≤ 256
   address-256 = omega (arith, alive.address.last, short-code)
 
-  pub frame-36 : length F ≡ 36
-  frame-36 = z.running.sized.frame-36 i z.thread-8
+  pub frame_36 : length F ≡ 36
+  frame_36 = z.running.sized.frame_36 i z.thread_8
 
   pub placed-here : Placed P m.objects T
   placed-here = placed (typed_of b) A m.objects (class_of S) (count_of m.counts i) T alive
@@ -172,14 +172,14 @@ module _ (b : List ℕ) (table : List (List ℕ)) (m : Memory) (i : ℕ) (z : Po
   -- ---- what the table says of the thread's class, q, and of a class that is started
   pub vars-are : (q : ℕ) → q ≡ class_in F → at (get_or table q []) 1 ≡ M.vars
   unfolding program_of method_at method_of
-  vars-are q e = rw e (ap (λ (l : List ℕ). at l 1) (row_is b table m z.running (class_in F) class-8))
+  vars-are q e = rw e (ap (λ (l : List ℕ). at l 1) (row_is b table m z.running (class_in F) class_8))
 
   pub args_are : (c : ℕ) → c < P.classes → at (get_or table c []) 0 ≡ (P.method c).args
   unfolding program_of method_at method_of
-  args_are c l = ap (λ (l : List ℕ). at l 0) (row_is b table m z.running c (omega (arith, A.formed.few-classes)))
+  args_are c l = ap (λ (l : List ℕ). at l 0) (row_is b table m z.running c (omega (arith, A.formed.few_classes)))
 
   code-starts : (q : ℕ) → q ≡ class_in F → at (get_or table q []) 2 ≡ (class_at b (class_in F)).offset + descriptor_count (class_at b (class_in F))
-  code-starts q e = rw e (ap (λ (l : List ℕ). at l 2) (row_is b table m z.running (class_in F) class-8))
+  code-starts q e = rw e (ap (λ (l : List ℕ). at l 2) (row_is b table m z.running (class_in F) class_8))
 
   lies : record_fits b (class_at b (class_in F)) ≡ true
   unfolding program_of
@@ -190,18 +190,18 @@ module _ (b : List ℕ) (table : List (List ℕ)) (m : Memory) (i : ℕ) (z : Po
   in_code = alive.address.last
 
   pub code_read : (q a : ℕ) → q ≡ class_in F → a ≡ address_in F → at (get_or table q []) 2 + 4 * (a - 1) + 3 < length b
-  code_read q a e f = rw (code-starts q e, f) (code-within b (class_at b (class_in F)) (address_in F) lies address-first in_code)
+  code_read q a e f = rw (code-starts q e, f) (code-within b (class_at b (class_in F)) (address_in F) lies address_first in_code)
 
   pub short-bundle : length b ≤ 65535
   short-bundle = (lengths b (agrees_back b z.running.accepted)).1
 
   pub instruction-here : (q a : ℕ) → q ≡ class_in F → a ≡ address_in F → decoded (code_from b (at (get_or table q []) 2 + 4 * (a - 1))) ≡ X
-  instruction-here q a e f = rw (code-starts q e, f) (instruction-there b (class_in F) (address_in F) lies address-first in_code)
+  instruction-here q a e f = rw (code-starts q e, f) (instruction-there b (class_in F) (address_in F) lies address_first in_code)
 
   -- ---- as `exec` asks it, of the class q and the address a that it read
   module _ (q a : ℕ) (e : q ≡ class_in F) (f : a ≡ address_in F) where
     pub class-small : q < 8
-    class-small = omega (arith, class-8)
+    class-small = omega (arith, class_8)
 
     pub next_small : a + 1 < 65536
     next_small = omega (arith, address-256)
@@ -210,7 +210,7 @@ module _ (b : List ℕ) (table : List (List ℕ)) (m : Memory) (i : ℕ) (z : Po
     vars-small = omega (arith, vars-are q e, few-vars)
 
     pub address-some : 1 ≤ a
-    address-some = omega (arith, address-first)
+    address-some = omega (arith, address_first)
 
     pub place-small : at (get_or table q []) 2 + 4 * (a - 1) < 18446744073709551616
     place-small = omega (arith, code_read q a e f, short-bundle)

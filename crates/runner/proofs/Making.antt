@@ -34,7 +34,7 @@ use Rattle.runner.specs.Objects.{Made, heap, made, fields_in, added_in, new_in}
 use Rattle.runner.specs.Fields.{Fielded, fielded, got_in, put_in}
 use Rattle.runner.specs.Poised.{Poised, Turned}
 use Rattle.runner.proofs.Stores.{threads-set, sized_set, fields-set, sized-field, fields_made, sized-made, object-made}
-use Rattle.runner.proofs.Known.{test-holds, test-rest, row_is, F, M, X, formed, depth-16, address-256, frame-36, placed-here}
+use Rattle.runner.proofs.Known.{test-holds, test-rest, row_is, F, M, X, formed, depth-16, address-256, frame_36, placed-here}
 use Rattle.runner.proofs.Steps.{framed, quiet, listed, goes, moved, threw, pushes}
 use Rattle.runner.proofs.Entering.{Here, either}
 
@@ -44,22 +44,22 @@ module _ (b : List ℕ) (table : List (List ℕ)) (m : Memory) (i : ℕ) (z : Po
   on p u to t h = rw t (went-is p u (address_in (F b table m i z) + 1) h (omega (arith, address-256 b table m i z)))
 
   pub resized : (p : List ℕ) (fields : List ℕ) → Sized m.frames fields → (u : Thread) → Is p u → Sized (set m.frames i p) fields
-  resized p fields s u h = sized_set m.frames i p z.running.sized.frames-8 z.thread-8 fields s h.sized
+  resized p fields s u h = sized_set m.frames i p z.running.sized.frames_8 z.thread_8 fields s h.sized
 
   pub rethreaded : (p : List ℕ) (u : Thread) → Is p u → tab 8 (thread_from (set m.frames i p)) ≡ set (tab 8 (thread_from m.frames)) i u
-  rethreaded p u h = threads-set m.frames i p z.running.sized.frames-8 z.thread-8 u h.thread
+  rethreaded p u h = threads-set m.frames i p z.running.sized.frames_8 z.thread_8 u h.thread
 
 -- ---- new
 module _ (b : List ℕ) (table : List (List ℕ)) (m : Memory) (i : ℕ) (z : Poised b table m i) (fails : Bool) (c : ℕ) (h : Addr) (q : X b table m i z ≡ New c h) where
   pub new-known : c < 8
-  new-known = omega (arith, (listed b table m i z fails (New c h) q).0, (formed b table m i z).few-classes)
+  new-known = omega (arith, (listed b table m i z fails (New c h) q).0, (formed b table m i z).few_classes)
 
   first-are : (o : ℕ) → o < 32 → tab 128 (slot_from (fields_in m.fields o (get_or table c []))) ≡ fields_with (tab 128 (slot_from m.fields)) o (first_fields ((program_of b).method c))
   unfolding program_of
-  first-are o l = rw (row_is b table m z.running c new-known) (fields_made b c o m.fields z.running.sized.fields-128 l)
+  first-are o l = rw (row_is b table m z.running c new-known) (fields_made b c o m.fields z.running.sized.fields_128 l)
 
   first-sized : (o : ℕ) → o < 32 → Sized m.frames (fields_in m.fields o (get_or table c []))
-  first-sized o l = rw (row_is b table m z.running c new-known) (sized-made b c o m.fields z.running.sized.fields-128 l m.frames z.running.sized)
+  first-sized o l = rw (row_is b table m z.running c new-known) (sized-made b c o m.fields z.running.sized.fields_128 l m.frames z.running.sized)
 
   abbrev Large : Bool
   Large = fails || leb 32 m.objects
@@ -93,7 +93,7 @@ module _ (b : List ℕ) (table : List (List ℕ)) (m : Memory) (i : ℕ) (z : Po
           0 i fails
       some f =
           let l : m.objects < 32 = leb-false 32 _ (or-false-snd fails _ f) in
-          let k = on b table m i z _ _ to t (pushed-is (F b table m i z) (frame-36 b table m i z) (depth-16 b table m i z) (4294967296 + m.objects) (new-room f)) in
+          let k = on b table m i z _ _ to t (pushed-is (F b table m i z) (frame_36 b table m i z) (depth-16 b table m i z) (4294967296 + m.objects) (new-room f)) in
           goes b table m i z fails (New c h) q refl _ 0 (resized b table m i z _ _ (first-sized m.objects l) _ k)
           (new-makes f
           ∙ ap (λ (s : State). went_on s i (Here m i).at (pushed (Here m i) (ref_slot m.objects))) (sym (object-made (state_from m) c (first_fields ((program_of b).method c)) l))
@@ -140,7 +140,7 @@ module _ (b : List ℕ) (table : List (List ℕ)) (m : Memory) (i : ℕ) (z : Po
 module _ (b : List ℕ) (table : List (List ℕ)) (m : Memory) (i : ℕ) (z : Poised b table m i) where
   -- what refers on the stack refers to an object
   entry-refers : (j : ℕ) → j < depth_in (F b table m i z) → refers m.objects (from_top (Here m i) j) ≡ true
-  entry-refers j l = (placed-here b table m i z).stack-refers (depth_in (F b table m i z) - 1 - j) (omega arith)
+  entry-refers j l = (placed-here b table m i z).stack_refers (depth_in (F b table m i z) - 1 - j) (omega arith)
 
   -- an owner that isn't null, with the word w
   owner-refers : (x : Slot) (w c : ℕ) → x ≡ slot_of w → may_be_object m.classes c x ≡ true → leb 4294967552 w ≡ false → is_ref x ≡ true
@@ -151,7 +151,7 @@ module _ (b : List ℕ) (table : List (List ℕ)) (m : Memory) (i : ℕ) (z : Po
   owner-object x w e r = ref-object w (subst (λ (y : Slot). is_ref y ≡ true) e r) ∙ ap object_of (sym e)
 
   owner-32 : (x : Slot) (w : ℕ) → x ≡ slot_of w → is_ref x ≡ true → refers m.objects x ≡ true → object_in w < 32
-  owner-32 x w e r g = omega (arith, owner-object x w e r, refers-object m.objects x g r, z.running.inv.whole.objects-32)
+  owner-32 x w e r g = omega (arith, owner-object x w e r, refers-object m.objects x g r, z.running.inv.whole.objects_32)
 
 -- getfield
 module _ (b : List ℕ) (table : List (List ℕ)) (m : Memory) (i : ℕ) (z : Poised b table m i) (fails : Bool) (c f : ℕ) (h : Addr) (q : X b table m i z ≡ Get c f h) where
@@ -166,7 +166,7 @@ module _ (b : List ℕ) (table : List (List ℕ)) (m : Memory) (i : ℕ) (z : Po
   get-word = top_read (F b table m i z) get-deep (depth-16 b table m i z)
 
   get-field : f < 4
-  get-field = omega (arith, (listed b table m i z fails (Get c f h) q).1, (formed b table m i z).fields-4 c (listed b table m i z fails (Get c f h) q).0)
+  get-field = omega (arith, (listed b table m i z fails (Get c f h) q).1, (formed b table m i z).fields_4 c (listed b table m i z fails (Get c f h) q).0)
 
   module _ (g : leb 4294967552 (top_in (F b table m i z)) ≡ false) where
     get-refers : is_ref (top_of (Here m i)) ≡ true
@@ -204,7 +204,7 @@ module _ (b : List ℕ) (table : List (List ℕ)) (m : Memory) (i : ℕ) (z : Po
           → Turned b m (framed m i (went_in (topped_in (F b table m i z) (at m.fields (object_in (top_in (F b table m i z)) * 4 + f))) to)) 0 i fails
       reads g =
           moved b table m i z fails (Get c f h) q refl _ _ 0
-          (on b table m i z _ _ to t (topped-is (F b table m i z) (frame-36 b table m i z) (depth-16 b table m i z) (at m.fields (object_in (top_in (F b table m i z)) * 4 + f)) get-deep)) (get-moves g)
+          (on b table m i z _ _ to t (topped-is (F b table m i z) (frame_36 b table m i z) (depth-16 b table m i z) (at m.fields (object_in (top_in (F b table m i z)) * 4 + f)) get-deep)) (get-moves g)
 
 -- putfield
 module _ (b : List ℕ) (table : List (List ℕ)) (m : Memory) (i : ℕ) (z : Poised b table m i) (fails : Bool) (c f : ℕ) (h : Addr) (q : X b table m i z ≡ Put c f h) where
@@ -224,7 +224,7 @@ module _ (b : List ℕ) (table : List (List ℕ)) (m : Memory) (i : ℕ) (z : Po
   put-value = top_read (F b table m i z) (omega (arith, put-deep)) (depth-16 b table m i z)
 
   put-field : f < 4
-  put-field = omega (arith, (listed b table m i z fails (Put c f h) q).1, (formed b table m i z).fields-4 c (listed b table m i z fails (Put c f h) q).0)
+  put-field = omega (arith, (listed b table m i z fails (Put c f h) q).1, (formed b table m i z).fields_4 c (listed b table m i z fails (Put c f h) q).0)
 
   module _ (g : leb 4294967552 (under_in (F b table m i z)) ≡ false) where
     put-refers : is_ref (from_top (Here m i) 1) ≡ true
@@ -272,7 +272,7 @@ module _ (b : List ℕ) (table : List (List ℕ)) (m : Memory) (i : ℕ) (z : Po
           (set m.fields (object_in (under_in (F b table m i z)) * 4 + f) (top_in (F b table m i z))))
           0 i fails
       writes g =
-          let k = on b table m i z _ _ to t (dropped-is (F b table m i z) (frame-36 b table m i z) (depth-16 b table m i z) 2 put-deep) in
+          let k = on b table m i z _ _ to t (dropped-is (F b table m i z) (frame_36 b table m i z) (depth-16 b table m i z) 2 put-deep) in
           goes b table m i z fails (Put c f h) q refl _ 0 (resized b table m i z _ _ (sized-field m.frames m.fields _ _ z.running.sized) _ k)
           (put-moves g
           ∙ ap (λ (ts : List Thread). record {
@@ -298,4 +298,4 @@ module _ (b : List ℕ) (table : List (List ℕ)) (m : Memory) (i : ℕ) (z : Po
               held = m.held;
             };
           })
-          (sym (fields-set m.fields (object_in (under_in (F b table m i z)) * 4 + f) (top_in (F b table m i z)) z.running.sized.fields-128 (put-known g))))
+          (sym (fields-set m.fields (object_in (under_in (F b table m i z)) * 4 + f) (top_in (F b table m i z)) z.running.sized.fields_128 (put-known g))))

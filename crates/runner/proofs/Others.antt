@@ -66,7 +66,7 @@ digit-zero w o e = below (w / 2 ^ o % 2) (mod-lt (w / 2 ^ o) (omega arith)) (eqb
 -- THEOREM
 module _ (held counts : List ℕ) (i o : ℕ) (li : i < 8)
     (worded : (j : ℕ) → j < 8 → bit (at held j) o ≡ ltb 0 (count_of counts j o))
-    (one-holder : (j : ℕ) → j < 8 → j ≢ i → 0 < count_of counts i o → count_of counts j o ≡ 0) where
+    (one_holder : (j : ℕ) → j < 8 → j ≢ i → 0 < count_of counts i o → count_of counts j o ≡ 0) where
   none : (j : ℕ) → j < 8 → bit (at held j) o ≡ false → count_of counts j o ≡ 0
   none j l e = omega (arith, ltb-false 0 (count_of counts j o) (sym (worded j l) ∙ e))
 
@@ -96,7 +96,7 @@ module _ (held counts : List ℕ) (i o : ℕ) (li : i < 8)
           → not (eqb (all_held held / 2 ^ o % 2) (at held i / 2 ^ o % 2)) ≡ not (others_free counts i o)
       go true e true f = never e (not-true _ (all-elim (λ j. not (bit (at held j) o)) 8 f i li))
       go true e false f =
-          rw (digit-one (all_held held) o (all-bit held o ∙ ap not f), digit-one (at held i) o e, free-by (λ j l n. one-holder j l n (some i li e)))
+          rw (digit-one (all_held held) o (all-bit held o ∙ ap not f), digit-one (at held i) o e, free-by (λ j l n. one_holder j l n (some i li e)))
       go false e true f =
           rw (
             digit-zero (all_held held) o (all-bit held o ∙ ap not f),

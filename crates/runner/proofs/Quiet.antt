@@ -6,4 +6,4 @@ use lib.ListN.{take}
 
 -- THEOREM
 pub never-faults : NeverFaults
-never-faults b xs e n l = ((demand-3 b e (steps_in (take n xs))).1 (step_in (at xs n))).no-fault
+never-faults b xs e n l = ((demand-3 b e (steps_in (take n xs))).1 (step_in (at xs n))).no_fault

@@ -30,7 +30,7 @@ use Rattle.runner.specs.Memory.{Memory, memory, frame_of, thread_from, state_fro
 use Rattle.runner.specs.Starts.{Begun, begun, idle_in, lowest_in, started_in}
 use Rattle.runner.specs.Poised.{Poised, Turned}
 use Rattle.runner.proofs.Stores.{frame-other, threads-set, sized_set}
-use Rattle.runner.proofs.Known.{test-holds, thread-is, F, M, X, formed, depth-16, frame-36, args_are}
+use Rattle.runner.proofs.Known.{test-holds, thread-is, F, M, X, formed, depth-16, frame_36, args_are}
 use Rattle.runner.proofs.Steps.{quiet, listed, goes, waits}
 use Rattle.runner.proofs.Entering.{Here, either}
 use Rattle.runner.proofs.Making.{on}
@@ -48,20 +48,20 @@ module _ (b : List ℕ) (table : List (List ℕ)) (m : Memory) (i : ℕ) (z : Po
   unfolding lowest_free lowest_in
   lowest-is = first-same 8 (not_live (state_from m)) (idle_in m.frames) (λ j l. ap (λ (t : Thread). not t.live) (thread-is b table m z.running j l))
 
-  class-known : c < (program_of b).classes
-  class-known = (listed b table m i z fails (Start c) q).0
+  class_known : c < (program_of b).classes
+  class_known = (listed b table m i z fails (Start c) q).0
 
   pub start-class : c < 8
-  start-class = omega (arith, class-known, (formed b table m i z).few-classes)
+  start-class = omega (arith, class_known, (formed b table m i z).few_classes)
 
   few-args : ((program_of b).method c).args ≤ 16
-  few-args = omega (arith, (formed b table m i z).args-vars c class-known, (formed b table m i z).vars-16 c class-known)
+  few-args = omega (arith, (formed b table m i z).args_vars c class_known, (formed b table m i z).vars_16 c class_known)
 
   pub start-args : at (get_or table c []) 0 < 256
-  start-args = omega (arith, args_are b table m i z c class-known, few-args)
+  start-args = omega (arith, args_are b table m i z c class_known, few-args)
 
   pub start-known : (n : ℕ) → n ≡ at (get_or table c []) 0 → (i < 8) × (n < 255)
-  start-known n e = (z.thread-8, omega (arith, args_are b table m i z c class-known, few-args))
+  start-known n e = (z.thread_8, omega (arith, args_are b table m i z c class_known, few-args))
 
   deep : ((program_of b).method c).args + 1 ≤ depth_in (F b table m i z)
   deep = leb-true _ _ (test-holds (has (((program_of b).method c).args + 1) (Here m i)) 11 _ (omega arith) (quiet b table m i z fails (Start c) q))
@@ -91,26 +91,26 @@ module _ (b : List ℕ) (table : List (List ℕ)) (m : Memory) (i : ℕ) (z : Po
 
       first-thread : Is First (started (thread_in (frame_of m.frames J)) (Here m i) c n)
       first-thread =
-          begun-is (frame_of m.frames J) (F b table m i z) (z.running.sized.frame-36 J l) (depth-16 b table m i z) n c (omega (arith, deep)) (omega (arith, start-class))
+          begun-is (frame_of m.frames J) (F b table m i z) (z.running.sized.frame_36 J l) (depth-16 b table m i z) n c (omega (arith, deep)) (omega (arith, start-class))
 
       last-thread : Is Last (with_at (popped (n + 1) (Here m i)) (address_in (F b table m i z) + 1))
       last-thread =
-          rw (frame-other m.frames J First z.running.sized.frames-8 l i other)
-          (on b table m i z _ _ to t (dropped-is (F b table m i z) (frame-36 b table m i z) (depth-16 b table m i z) (n + 1) (omega (arith, deep))))
+          rw (frame-other m.frames J First z.running.sized.frames_8 l i other)
+          (on b table m i z _ _ to t (dropped-is (F b table m i z) (frame_36 b table m i z) (depth-16 b table m i z) (n + 1) (omega (arith, deep))))
 
       next-8 : length Next ≡ 8
-      next-8 = length-set m.frames J First ∙ z.running.sized.frames-8
+      next-8 = length-set m.frames J First ∙ z.running.sized.frames_8
 
       all-threads : tab 8 (thread_from (set Next i Last))
           ≡ set (set (tab 8 (thread_from m.frames)) J (started (thread_in (frame_of m.frames J)) (Here m i) c n)) i (with_at (popped (n + 1) (Here m i)) (address_in (F b table m i z) + 1))
       all-threads =
-          threads-set Next i Last next-8 z.thread-8 _ last-thread.thread
+          threads-set Next i Last next-8 z.thread_8 _ last-thread.thread
           ∙ ap (λ (ts : List Thread). set ts i (with_at (popped (n + 1) (Here m i)) (address_in (F b table m i z) + 1)))
-          (threads-set m.frames J First z.running.sized.frames-8 l _ first-thread.thread)
+          (threads-set m.frames J First z.running.sized.frames_8 l _ first-thread.thread)
 
       all-sized : Sized (set Next i Last) m.fields
       all-sized =
-          sized_set Next i Last next-8 z.thread-8 m.fields (sized_set m.frames J First z.running.sized.frames-8 l m.fields z.running.sized first-thread.sized) last-thread.sized
+          sized_set Next i Last next-8 z.thread_8 m.fields (sized_set m.frames J First z.running.sized.frames_8 l m.fields z.running.sized first-thread.sized) last-thread.sized
 
       state-with : List Thread → Stepped
       state-with ts =
@@ -134,7 +134,7 @@ module _ (b : List ℕ) (table : List (List ℕ)) (m : Memory) (i : ℕ) (z : Po
   start-turned r fs n to en t e =
       subst Q (sym e)
       (either Q (leb 8 J) _ _ (λ f. waits b table m i z fails (Start c) q 4 (wait-is false (le-ltb J 8 (leb-true 8 J f))) (omega arith))
-      (λ f. start-begins (leb-false 8 J f) n to (en ∙ args_are b table m i z c class-known) t))
+      (λ f. start-begins (leb-false 8 J f) n to (en ∙ args_are b table m i z c class_known) t))
     where
       Q : Begun → Type 0
       Q x = Turned b m (memory x.frames m.counts m.held m.objects m.classes m.fields) x.answer i fails

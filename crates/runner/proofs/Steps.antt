@@ -32,7 +32,7 @@ use Rattle.memory.proofs.Frames.{Is, went-is, pushed-is, popped-is, stored_is, c
 use Rattle.runner.specs.Memory.{Memory, memory, frame_of, state_from, Sized}
 use Rattle.runner.specs.Poised.{Poised, Turned}
 use Rattle.runner.proofs.Stores.{threads-set, sized_set}
-use Rattle.runner.proofs.Known.{test-holds, test-rest, none-drawn, P, S, F, T, M, X, no-fault-here, step_is, few-vars, few-places, depth-16, short-code, address-256, frame-36, fits}
+use Rattle.runner.proofs.Known.{test-holds, test-rest, none-drawn, P, S, F, T, M, X, no-fault-here, step_is, few-vars, few-places, depth-16, short-code, address-256, frame_36, fits}
 
 -- the memory with another frame of thread i
 abbrev pub framed : Memory → ℕ → List ℕ → Memory
@@ -80,9 +80,9 @@ module _ (b : List ℕ) (table : List (List ℕ)) (m : Memory) (i : ℕ) (z : Po
       → move_of (P b table m i z) (S b table m i z) i (T b table m i z) (M b table m i z) fails x ≡ record { answer = n; state = with_thread (S b table m i z) i u }
       → Turned b m (framed m i p) n i fails
   moved x q w p u n h e =
-      goes x q w (framed m i p) n (sized_set m.frames i p z.running.sized.frames-8 z.thread-8 m.fields z.running.sized h.sized)
+      goes x q w (framed m i p) n (sized_set m.frames i p z.running.sized.frames_8 z.thread_8 m.fields z.running.sized h.sized)
       (e ∙ ap (λ (ts : List Thread). record { answer = n; state = record { threads = ts; counts = m.counts; objects = m.objects; classes = m.classes; fields = (state_from m).fields; held = m.held } })
-      (sym (threads-set m.frames i p z.running.sized.frames-8 z.thread-8 u h.thread)))
+      (sym (threads-set m.frames i p z.running.sized.frames_8 z.thread_8 u h.thread)))
 
   next_fits : address_in (F b table m i z) + 1 < 65536
   next_fits = omega (arith, address-256 b table m i z)
@@ -101,13 +101,13 @@ module _ (b : List ℕ) (table : List (List ℕ)) (m : Memory) (i : ℕ) (z : Po
         let k = quiet Inc q in
         let l : 1 ≤ depth_in (F b table m i z) = leb-true 1 _ (test-holds (has 1 here) 11 _ (omega arith) k) in
         let g : is_int (top_of here) ≡ true = test-holds (is_int (top_of here)) 13 0 (omega arith) (test-rest (has 1 here) 11 _ (omega arith) k) in
-        went Inc q refl _ _ (inc_is (F b table m i z) (frame-36 b table m i z) (depth-16 b table m i z) g l) refl
+        went Inc q refl _ _ (inc_is (F b table m i z) (frame_36 b table m i z) (depth-16 b table m i z) g l) refl
 
   module _ (q : X b table m i z ≡ Pop) where
     pub pop-turned : (p' : List ℕ) (to : ℕ) → to ≡ address_in (F b table m i z) + 1 → p' ≡ went_in (popped_in (F b table m i z)) to → Turned b m (framed m i p') 0 i fails
     pop-turned =
         let l : 1 ≤ depth_in (F b table m i z) = leb-true 1 _ (test-holds (has 1 here) 11 0 (omega arith) (quiet Pop q)) in
-        went Pop q refl _ _ (popped-is (F b table m i z) (frame-36 b table m i z) (depth-16 b table m i z) l) refl
+        went Pop q refl _ _ (popped-is (F b table m i z) (frame_36 b table m i z) (depth-16 b table m i z) l) refl
 
   pub pushes : room (M b table m i z).limit here ≡ true → depth_in (F b table m i z) < 16
   pushes e = omega (arith, ltb-true (depth_in (F b table m i z)) (M b table m i z).limit e, few-places b table m i z)
@@ -116,7 +116,7 @@ module _ (b : List ℕ) (table : List (List ℕ)) (m : Memory) (i : ℕ) (z : Po
     pub push0-turned : (p' : List ℕ) (to : ℕ) → to ≡ address_in (F b table m i z) + 1 → p' ≡ went_in (pushed_in (F b table m i z) 0) to → Turned b m (framed m i p') 0 i fails
     push0-turned =
         let l = pushes (test-holds (room (M b table m i z).limit here) 12 0 (omega arith) (quiet Push0 q)) in
-        went Push0 q refl _ _ (pushed-is (F b table m i z) (frame-36 b table m i z) (depth-16 b table m i z) 0 l)
+        went Push0 q refl _ _ (pushed-is (F b table m i z) (frame_36 b table m i z) (depth-16 b table m i z) 0 l)
         (ap (λ (x : Slot). went_on (state_from m) i here.at (pushed here x)) (sym word-zero))
 
   var-16 : (v : Var) → v.0 < (M b table m i z).vars → v.0 < 16
@@ -127,7 +127,7 @@ module _ (b : List ℕ) (table : List (List ℕ)) (m : Memory) (i : ℕ) (z : Po
         → Turned b m (framed m i p') 0 i fails
     load-turned =
         let l = pushes (test-holds (room (M b table m i z).limit here) 12 0 (omega arith) (quiet (Load v) q)) in
-        went (Load v) q refl _ _ (pushed-is (F b table m i z) (frame-36 b table m i z) (depth-16 b table m i z) (var_in (F b table m i z) v.0) l)
+        went (Load v) q refl _ _ (pushed-is (F b table m i z) (frame_36 b table m i z) (depth-16 b table m i z) (var_in (F b table m i z) v.0) l)
         (ap (λ (x : Slot). went_on (state_from m) i here.at (pushed here x)) (var-read (F b table m i z) v.0 (var-16 v (listed (Load v) q).0)))
 
   module _ (v : Var) (q : X b table m i z ≡ Store v) where
@@ -137,7 +137,7 @@ module _ (b : List ℕ) (table : List (List ℕ)) (m : Memory) (i : ℕ) (z : Po
     store-turned =
         let l : 1 ≤ depth_in (F b table m i z) = leb-true 1 _ (test-holds (has 1 here) 11 0 (omega arith) (quiet (Store v) q)) in
         let k : Is (stored_in (F b table m i z) v.0 (top_in (F b table m i z))) (stored here v.0 (slot_of (top_in (F b table m i z)))) =
-        stored_is (F b table m i z) (frame-36 b table m i z) (depth-16 b table m i z) v.0 (top_in (F b table m i z)) (var-16 v (listed (Store v) q).0) in
+        stored_is (F b table m i z) (frame_36 b table m i z) (depth-16 b table m i z) v.0 (top_in (F b table m i z)) (var-16 v (listed (Store v) q).0) in
         let d : depth_in (stored_in (F b table m i z) v.0 (top_in (F b table m i z))) ≡ depth_in (F b table m i z) = ap (λ (t : Thread). t.depth) k.thread in
         let h = popped-is (stored_in (F b table m i z) v.0 (top_in (F b table m i z))) k.sized (omega (arith, depth-16 b table m i z)) (omega arith) in
         went (Store v) q refl (popped_in (stored_in (F b table m i z) v.0 (top_in (F b table m i z)))) (popped 1 (stored here v.0 (slot_of (top_in (F b table m i z)))))
@@ -151,7 +151,7 @@ module _ (b : List ℕ) (table : List (List ℕ)) (m : Memory) (i : ℕ) (z : Po
         let l : 1 ≤ depth_in (F b table m i z) = leb-true 1 _ (test-holds (has 1 here) 11 _ (omega arith) k) in
         let g : is_int (top_of here) ≡ true = test-holds (is_int (top_of here)) 13 0 (omega arith) (test-rest (has 1 here) 11 _ (omega arith) k) in
         moved (If a) q refl p' _ 0
-        (rw (f, t) (branched-is (F b table m i z) (frame-36 b table m i z) (depth-16 b table m i z) g l a.0 (address_in (F b table m i z) + 1)
+        (rw (f, t) (branched-is (F b table m i z) (frame_36 b table m i z) (depth-16 b table m i z) g l a.0 (address_in (F b table m i z) + 1)
         (omega (arith, (listed (If a) q).0.1, short-code b table m i z)) next_fits))
         (branches (jumps (top_of here)))
       where
@@ -167,8 +167,8 @@ module _ (b : List ℕ) (table : List (List ℕ)) (m : Memory) (i : ℕ) (z : Po
     where
       go : (t : Bool) → Is (cond t (ended_in (F b table m i z) (M b table m i z).vars) (went_in (caught_in (F b table m i z) w) h))
           (cond t (ended (M b table m i z).vars here) (with_at (caught here (slot_of w)) h))
-      go true = ended_is (F b table m i z) (frame-36 b table m i z) (depth-16 b table m i z) (M b table m i z).vars (few-vars b table m i z)
-      go false = went-is _ _ h (caught-is (F b table m i z) (frame-36 b table m i z) (depth-16 b table m i z) w) l
+      go true = ended_is (F b table m i z) (frame_36 b table m i z) (depth-16 b table m i z) (M b table m i z).vars (few-vars b table m i z)
+      go false = went-is _ _ h (caught-is (F b table m i z) (frame_36 b table m i z) (depth-16 b table m i z) w) l
 
   pub threw : (x : Instruction) → X b table m i z ≡ x → wait_of (S b table m i z) i (T b table m i z) x ≡ 0 → (h : Addr) (w : ℕ) → h.0 ≤ (M b table m i z).code
       → move_of (P b table m i z) (S b table m i z) i (T b table m i z) (M b table m i z) fails x ≡ throw_move (S b table m i z) i (T b table m i z) (M b table m i z).vars h (slot_of w)
@@ -200,7 +200,7 @@ module _ (b : List ℕ) (table : List (List ℕ)) (m : Memory) (i : ℕ) (z : Po
   module _ (q : X b table m i z ≡ Return) where
     pub return-turned : (p' : List ℕ) (vars : ℕ) → vars ≡ (M b table m i z).vars → p' ≡ ended_in (F b table m i z) vars → Turned b m (framed m i p') 1 i fails
     return-turned p' vars ev ep =
-        moved Return q refl p' _ 1 (rw (ep, ev) (ended_is (F b table m i z) (frame-36 b table m i z) (depth-16 b table m i z) (M b table m i z).vars (few-vars b table m i z))) refl
+        moved Return q refl p' _ 1 (rw (ep, ev) (ended_is (F b table m i z) (frame_36 b table m i z) (depth-16 b table m i z) (M b table m i z).vars (few-vars b table m i z))) refl
 
   -- no instruction: not in an accepted bundle
   pub never-nothing : X b table m i z ≡ Nothing → ⊥

@@ -41,14 +41,14 @@ module _ (frames : List (List ℕ)) (i : ℕ) (p : List ℕ) (n : length frames 
   pub sized_set : (fields : List ℕ) → Sized frames fields → length p ≡ 36 → Sized (set frames i p) fields
   sized_set fields z e =
       record {
-        frames-8 = length-set frames i p ∙ z.frames-8;
-        frame-36 = λ j k. go j k (ℕ_discrete j i);
-        fields-128 = z.fields-128;
+        frames_8 = length-set frames i p ∙ z.frames_8;
+        frame_36 = λ j k. go j k (ℕ_discrete j i);
+        fields_128 = z.fields_128;
       }
     where
       go : (j : ℕ) → j < 8 → Dec (j ≡ i) → length (frame_of (set frames i p) j) ≡ 36
       go j k (yes q) = rw q (ap length frame-own ∙ e)
-      go j k (no q) = ap length (frame-other j q) ∙ z.frame-36 j k
+      go j k (no q) = ap length (frame-other j q) ∙ z.frame_36 j k
 
 -- ---- one field place is written
 pub fields-set : (fields : List ℕ) (k w : ℕ) → length fields ≡ 128 → k < 128 → tab 128 (slot_from (set fields k w)) ≡ set (tab 128 (slot_from fields)) k (slot_of w)
@@ -58,7 +58,7 @@ fields-set fields k w n l =
 
 pub sized-field : (frames : List (List ℕ)) (fields : List ℕ) (k w : ℕ) → Sized frames fields → Sized frames (set fields k w)
 sized-field frames fields k w z =
-    record { frames-8 = z.frames-8; frame-36 = z.frame-36; fields-128 = length-set fields k w ∙ z.fields-128 }
+    record { frames_8 = z.frames_8; frame_36 = z.frame_36; fields_128 = length-set fields k w ∙ z.fields_128 }
 
 -- ---- the fields of a new object
 first-word : (m : Method) (j : ℕ) → slot_of (first_word m j) ≡ first_field m j

@@ -44,6 +44,6 @@ state_from m =
 
 -- eight frames of 36 words, and 128 field places
 pub record Sized (frames : List (List ℕ)) (fields : List ℕ) : Type 0 where
-  pub frames-8 : length frames ≡ 8
-  pub frame-36 : (i : ℕ) → i < 8 → length (frame_of frames i) ≡ 36
-  pub fields-128 : length fields ≡ 128
+  pub frames_8 : length frames ≡ 8
+  pub frame_36 : (i : ℕ) → i < 8 → length (frame_of frames i) ≡ 36
+  pub fields_128 : length fields ≡ 128

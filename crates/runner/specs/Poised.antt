@@ -19,7 +19,7 @@ pub record Running (b : List ℕ) (table : List (List ℕ)) (m : Memory) : Type 
 -- .. and thread i is live
 pub record Poised (b : List ℕ) (table : List (List ℕ)) (m : Memory) (i : ℕ) : Type 0 where
   pub running : Running b table m
-  pub thread-8 : i < 8
+  pub thread_8 : i < 8
   pub live : live_in (frame_of m.frames i) ≡ true
 
 -- the answer and the new memory are those of document 01's step of thread i

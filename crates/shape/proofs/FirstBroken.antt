@@ -42,7 +42,7 @@ module _ (b : List ℕ) where
   unfolding In program_of method_at method_of
   listed (structural p) w = in_left _ Structural _ (map-in structural p (structure_places b) ((structure-judges b).listed p w))
   listed (form c l) w =
-      in_right _ Structural _ (each_in _ _ (form_places b) c w.class-known
+      in_right _ Structural _ (each_in _ _ (form_places b) c w.class_known
       (numbered-in _ _ (λ i. form c (i + 1)) (l - 1) (omega (arith, w.first, w.last)) (ap (form c) (omega (arith, w.first)))))
   listed (first c) w = absurd w
   listed (rule c l) w = absurd w
@@ -51,7 +51,7 @@ module _ (b : List ℕ) where
   unfolding program_of method_at method_of
   form-within p c l h =
       let i = in-numbered p (class_at b c).code (λ i. form c (i + 1)) h in
-      rw i.2 (record { class-known = l; first = omega arith; last = omega (arith, i.1) })
+      rw i.2 (record { class_known = l; first = omega arith; last = omega (arith, i.1) })
 
   within : (p : Place) → In p (shape_places b) → ShapeWithin b p
   within p h =

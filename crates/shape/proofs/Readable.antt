@@ -61,11 +61,11 @@ module _ (b : List ℕ) (R : Readable b) where
   pub row-shaped : (c l : ℕ) → c < classes b → 1 ≤ l → l ≤ (class_at b c).code
       → row_formed (class_at b c).vars (class_at b c).limit (row_aside (classes b) (class_at b c) (part_of b (class_at b c)) (row_start (class_at b c) l)) ≡ true
   unfolding program_of method_at method_of
-  row-shaped c l h low high = shape-zero b R.shaped (form c l) (record { class-known = h; first = low; last = high })
+  row-shaped c l h low high = shape-zero b R.shaped (form c l) (record { class_known = h; first = low; last = high })
 
-  pub depth-limit : (c l : ℕ) → c < classes b → 1 ≤ l → l ≤ (class_at b c).code → depth_of b c l ≤ (class_at b c).limit
+  pub depth_limit : (c l : ℕ) → c < classes b → 1 ≤ l → l ≤ (class_at b c).code → depth_of b c l ≤ (class_at b c).limit
   unfolding row_formed depth_of
-  depth-limit c l h low high = leb-true _ _ (and-fst _ _ (and-fst _ _ (row-shaped c l h low high)))
+  depth_limit c l h low high = leb-true _ _ (and-fst _ _ (and-fst _ _ (row-shaped c l h low high)))
 
   pub bundle-long : 8 ≤ length b
   bundle-long = (lengths b good).0
@@ -116,7 +116,7 @@ module _ (b : List ℕ) (R : Readable b) where
 
   -- ---- an entry in use
   pub in_row : {c l s : ℕ} → InUse b c l s → s < (class_at b c).vars + (class_at b c).limit
-  in_row {c} {l} {s} u = omega (arith, u.used, depth-limit c l u.class-known u.first u.last)
+  in_row {c} {l} {s} u = omega (arith, u.used, depth_limit c l u.class_known u.first u.last)
 
   pub inside : {c l s : ℕ} (t : ℕ) → t < 4 → InUse b c l s → Inside c (place_of b c l s + t)
   unfolding place_of
@@ -148,7 +148,7 @@ module _ (b : List ℕ) (R : Readable b) where
   pub pair-once : {c l s c' l' s' : ℕ} → Reference b c l s → Reference b c' l' s' → place_of b c l s + 2 ≡ place_of b c' l' s' + 3 → ⊥
   unfolding place_of
   pair-once {c} {l} {s} {c'} {l'} {s'} r r' e =
-      go c' r' e (same_class c c' (place_of b c l s + 2) r.in_use.class-known r'.in_use.class-known (inside 2 (omega arith) r.in_use) (rw e (inside 3 (omega arith) r'.in_use)))
+      go c' r' e (same_class c c' (place_of b c l s + 2) r.in_use.class_known r'.in_use.class_known (inside 2 (omega arith) r.in_use) (rw e (inside 3 (omega arith) r'.in_use)))
     where
       go : (d : ℕ) → Reference b d l' s' → (class_at b c).offset + place_in (class_at b c) l s + 2 ≡ (class_at b d).offset + place_in (class_at b d) l' s' + 3 → d ≡ c → ⊥
       go d q f h =
@@ -163,10 +163,10 @@ module _ (b : List ℕ) (R : Readable b) where
   not-trailer p h x =
       let w = found x in
       let i = place_inside w in
-      omega (arith, i.1, extent w.class w.reference.in_use.class-known)
+      omega (arith, i.1, extent w.class w.reference.in_use.class_known)
 
   pub not-directory : (p : ℕ) → directory_at b ≤ p → p < directory_at b + 8 * classes b → PairByte b p → ⊥
-  not-directory p h k x = let w = found x in not-both w.class p w.reference.in_use.class-known (place_inside w) h k
+  not-directory p h k x = let w = found x in not-both w.class p w.reference.in_use.class_known (place_inside w) h k
 
   -- ---- in class c's record
   module _ (c : ℕ) (lc : c < classes b) where
@@ -185,7 +185,7 @@ module _ (b : List ℕ) (R : Readable b) where
 
     pub here : (q : ℕ) → q < size k → PairByte b (k.offset + q) → Here q
     unfolding place_of
-    here q h x = go (same_class c w.class (k.offset + q) lc w.reference.in_use.class-known (omega arith, omega arith) (place_inside w)) w
+    here q h x = go (same_class c w.class (k.offset + q) lc w.reference.in_use.class_known (omega arith, omega arith) (place_inside w)) w
       where
         w : Where (k.offset + q)
         w = found x

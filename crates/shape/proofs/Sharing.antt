@@ -14,7 +14,7 @@ use Rattle.structure.specs.Verdicts.{is_bad}
 use Rattle.structure.proofs.Structured.{class-limits}
 use Rattle.shape.specs.Shape.{shape_verdict}
 use Rattle.shape.specs.Apart.{apart, apart_from, lower_apart, directory_apart, class_apart, all_apart}
-use Rattle.shape.specs.Sharing.{Shared, with-another, with-directory, SharedExactly}
+use Rattle.shape.specs.Sharing.{Shared, with_another, with_directory, SharedExactly}
 use Rattle.shape.proofs.Readable.{structured, not-both, same_class}
 
 -- of two parts that are not apart, neither of them empty, the later one's first byte is in both
@@ -33,20 +33,20 @@ module _ (b : List ℕ) (s : is_bad (shape_verdict b) ≡ false) where
   -- no record is empty
   some : (c : ℕ) → c < classes b → 0 < size (class_at b c)
   unfolding size
-  some c l = omega (arith, (class-limits b (structured b s) c l).some-code)
+  some c l = omega (arith, (class-limits b (structured b s) c l).some_code)
 
   module _ (c : ℕ) (l : c < classes b) where
     directory : directory_apart b (class_at b c) ≡ false → Shared b
     unfolding directory_apart
     directory e =
         let q = shares _ _ _ _ e (some c l) (omega arith) in
-        with-directory c q.0 (record { class-known = l; begun = q.1; not-over = q.2 }) (record { begun = q.3; not-over = q.4 })
+        with_directory c q.0 (record { class_known = l; begun = q.1; not_over = q.2 }) (record { begun = q.3; not_over = q.4 })
 
     another : (d : ℕ) → d < c → apart_from b (class_at b c) d ≡ false → Shared b
     unfolding apart_from
     another d m e =
         let q = shares _ _ _ _ e (some c l) (some d (omega arith)) in
-        with-another c d q.0 (λ f. omega arith) (record { class-known = l; begun = q.1; not-over = q.2 }) (record { class-known = omega arith; begun = q.3; not-over = q.4 })
+        with_another c d q.0 (λ f. omega arith) (record { class_known = l; begun = q.1; not_over = q.2 }) (record { class_known = omega arith; begun = q.3; not_over = q.4 })
 
     lower : lower_apart b (class_at b c) c ≡ false → Shared b
     unfolding lower_apart
@@ -65,10 +65,10 @@ module _ (b : List ℕ) (s : is_bad (shape_verdict b) ≡ false) where
   found h = let q = all-some (class_apart b) (classes b) h in shared_of q.0 q.1 q.2
 
   never-apart : all_apart b ≡ true → Shared b → ⊥
-  never-apart h (with-another c d p n i j) =
-      n (same_class b (record { shaped = s; apart = h }) c d p i.class-known j.class-known (i.begun, i.not-over) (j.begun, j.not-over))
-  never-apart h (with-directory c p i j) =
-      not-both b (record { shaped = s; apart = h }) c p i.class-known (i.begun, i.not-over) j.begun j.not-over
+  never-apart h (with_another c d p n i j) =
+      n (same_class b (record { shaped = s; apart = h }) c d p i.class_known j.class_known (i.begun, i.not_over) (j.begun, j.not_over))
+  never-apart h (with_directory c p i j) =
+      not-both b (record { shaped = s; apart = h }) c p i.class_known (i.begun, i.not_over) j.begun j.not_over
 
 -- THEOREM: past refusals 1 to 8 the test says exactly that a record shares a byte with another or with the directory
 pub shared-exactly : SharedExactly

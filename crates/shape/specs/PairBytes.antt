@@ -23,7 +23,7 @@ depth_of b c l = let k = class_at b c in depth_at (part_of b k) (row_start k l) 
 
 -- entry s of row l of class c is in use: a variable, or a stack entry within the depth
 pub record InUse (b : List ℕ) (c l s : ℕ) : Type 0 where
-  pub class-known : c < classes b
+  pub class_known : c < classes b
   pub first : 1 ≤ l
   pub last : l ≤ (class_at b c).code
   pub used : s < (class_at b c).vars + depth_of b c l

@@ -7,19 +7,19 @@ use Rattle.shape.specs.Apart.{all_apart}
 
 -- the byte at place p is one of class c's record
 pub record InRecord (b : List ℕ) (c p : ℕ) : Type 0 where
-  pub class-known : c < classes b
+  pub class_known : c < classes b
   pub begun : (class_at b c).offset ≤ p
-  pub not-over : p < (class_at b c).offset + size (class_at b c)
+  pub not_over : p < (class_at b c).offset + size (class_at b c)
 
 -- .. one of the directory
 pub record InDirectory (b : List ℕ) (p : ℕ) : Type 0 where
   pub begun : directory_at b ≤ p
-  pub not-over : p < directory_at b + 8 * classes b
+  pub not_over : p < directory_at b + 8 * classes b
 
 -- some byte is one of two classes' records, or of a record and of the directory
 pub data Shared (b : List ℕ) : Type 0 where
-  with-another : (c d p : ℕ) → (d ≡ c → ⊥) → InRecord b c p → InRecord b d p → Shared b
-  with-directory : (c p : ℕ) → InRecord b c p → InDirectory b p → Shared b
+  with_another : (c d p : ℕ) → (d ≡ c → ⊥) → InRecord b c p → InRecord b d p → Shared b
+  with_directory : (c p : ℕ) → InRecord b c p → InDirectory b p → Shared b
 
 -- past refusals 1 to 8
 abbrev pub SharedExactly : Type 0

@@ -12,14 +12,14 @@ use Rattle.rules.specs.Rules.{rule_at}
 
 pub record Accepted (P : Typed) : Type 0 where
   pub formed : WellFormed P.program
-  pub depth-limit : (c l : ℕ) → Address P.program c l → (P.row c l).depth ≤ (P.program.method c).limit
-  pub variable-type : (c l i : ℕ) → Address P.program c l → i < (P.program.method c).vars → is_type ((P.row c l).variable i) ≡ true
-  pub stack-type : (c l j : ℕ) → Address P.program c l → j < (P.row c l).depth → is_type ((P.row c l).stack j) ≡ true
+  pub depth_limit : (c l : ℕ) → Address P.program c l → (P.row c l).depth ≤ (P.program.method c).limit
+  pub variable_type : (c l i : ℕ) → Address P.program c l → i < (P.program.method c).vars → is_type ((P.row c l).variable i) ≡ true
+  pub stack_type : (c l j : ℕ) → Address P.program c l → j < (P.row c l).depth → is_type ((P.row c l).stack j) ≡ true
   -- an end is at least -63
-  pub variable-end : (c l i : ℕ) → 1 ≤ end_of ((P.row c l).variable i)
-  pub stack-end : (c l j : ℕ) → 1 ≤ end_of ((P.row c l).stack j)
-  pub first-depth : (c : ℕ) → c < P.program.classes → (P.row c 1).depth ≡ 0
-  pub first-argument : (c i : ℕ) → c < P.program.classes → i < (P.program.method c).args
+  pub variable_end : (c l i : ℕ) → 1 ≤ end_of ((P.row c l).variable i)
+  pub stack_end : (c l j : ℕ) → 1 ≤ end_of ((P.row c l).stack j)
+  pub first_depth : (c : ℕ) → c < P.program.classes → (P.row c 1).depth ≡ 0
+  pub first_argument : (c i : ℕ) → c < P.program.classes → i < (P.program.method c).args
       → entry_fits (argument_entry ((P.program.method c).descriptor i)) ((P.row c 1).variable i) ≡ true
-  pub first-other : (c i : ℕ) → c < P.program.classes → (P.program.method c).args ≤ i → i < (P.program.method c).vars → (P.row c 1).variable i ≡ Top
+  pub first_other : (c i : ℕ) → c < P.program.classes → (P.program.method c).args ≤ i → i < (P.program.method c).vars → (P.row c 1).variable i ≡ Top
   pub rule : (c l : ℕ) → Address P.program c l → rule_holds (P.program.method c).vars (rule_at P c l) ≡ true

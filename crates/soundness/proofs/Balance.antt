@@ -99,7 +99,7 @@ module _ (n : ℕ) (cls : ℕ → ℕ) (E : ℕ → Entry) (v : ℕ → Value) (
           sum-two 32 (λ s. dip o (E' s) (v' s)) (λ s. dip o (E s) (v s)) a b 0 0 ab l (λ s j x y. (h s j x y).dips o)
               (rw (qa, u) (omega (
                 arith,
-                cond-le (names o (v b)) (dip_of (E' a)) (dip_of (E b)) 0 f.dip-less,
+                cond-le (names o (v b)) (dip_of (E' a)) (dip_of (E b)) 0 f.dip_less,
                 cond-low (names o (v' b)) 0 0 (omega arith),
               ))),
         );
@@ -109,7 +109,7 @@ module _ (n : ℕ) (cls : ℕ → ℕ) (E : ℕ → Entry) (v : ℕ → Value) (
           sum-two 32 (λ s. end o (E' s) (v' s)) (λ s. end o (E s) (v s)) a b 0 0 ab l (λ s j x y. (h s j x y).ends o)
               (rw (qa, u) (omega (
                 arith,
-                cond-le (names o (v b)) (end_of (E' a)) (end_of (E b)) 64 f.end-less,
+                cond-le (names o (v b)) (end_of (E' a)) (end_of (E b)) 64 f.end_less,
                 cond-low (names o (v' b)) 64 64 (omega arith),
                 cond_top (names o (v a)) (end_of (E a)) 64 g,
               ))),

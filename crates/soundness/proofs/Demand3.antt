@@ -59,14 +59,14 @@ module _ (b : List ℕ) (e : (verdict_of b).number ≡ 0) where
   pub safe : (s : State) → Inv P s → Safe b s
   safe s inv =
       record {
-        leaves-held = λ t v l a q. exit-held P (accepted b e) s inv t l a v q;
-        idle-free = λ t o l k a. ((inv.thread t l).asleep a).free o k;
-        one-holder = inv.whole.one-holder;
+        leaves_held = λ t v l a q. exit-held P (accepted b e) s inv t l a v q;
+        idle_free = λ t o l k a. ((inv.thread t l).asleep a).free o k;
+        one_holder = inv.whole.one_holder;
         bounded = λ t o l k. bounded P (accepted b e) s inv t o l k;
       }
 
   pub sound : (s : State) → Inv P s → (x : Step) → Sound s x.who (answer b s x) (after b s x)
-  sound s inv x = let good = step-good s inv x.who x.fails in record { no-fault = good.quiet; ends-free = good.ends }
+  sound s inv x = let good = step-good s inv x.who x.fails in record { no_fault = good.quiet; ends_free = good.ends }
 
 -- THEOREM, demand 3
 pub demand-3 : Demand3

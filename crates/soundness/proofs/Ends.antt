@@ -92,7 +92,7 @@ module _ (P : Typed) (A : Accepted P) (s : State) (inv : Inv P s) (i : ℕ) (li 
   unfolding holds_nothing ended
   end-fine n l vg sg =
       record {
-        no-fault = went_on_lem _ _ (all-intro (is_free s.counts i) 32 (λ o k. eq-eqb (cnt o) 0 (free vg sg o k)));
+        no_fault = went_on_lem _ _ (all-intro (is_free s.counts i) 32 (λ o k. eq-eqb (cnt o) 0 (free vg sg o k)));
         good = λ _. record {
           quiet = omega arith;
           inv = thread-moves P s i li (others P s inv i) (ended vars T) (asleep-standing P s.objects cls cnt (ended vars T) refl (asleep (free vg sg)));
@@ -122,15 +122,15 @@ module _ (P : Typed) (A : Accepted P) (s : State) (inv : Inv P s) (i : ℕ) (li 
       found : eqb h.0 0 ≡ false → Fine P s i (test (leb 1 limit) 12 0) 0 (went_to s i (caught T x) h.0)
       found q =
           let g : AllFit vars (edge (rows.pushed e (emptied here)) (wants (P.row T.class h.0)) ∷ []) = rw q at f in
-          let ad : Address P.program T.class h.0 = record { class-known = ((inv.thread i li).live lv).address.class-known; first = omega (arith, eqb-false h.0 0 q); last = l } in
+          let ad : Address P.program T.class h.0 = record { class_known = ((inv.thread i li).live lv).address.class_known; first = omega (arith, eqb-false h.0 0 q); last = l } in
           let is = pushed-is (popped T.depth T) x (omega arith) in
           record {
-            no-fault = went_on_lem _ _ (le-leb 1 limit (omega (arith, g.0.depths, A.depth-limit T.class h.0 ad)));
+            no_fault = went_on_lem _ _ (le-leb 1 limit (omega (arith, g.0.depths, A.depth_limit T.class h.0 ad)));
             good = λ _. goes_to P A s inv i li lv (caught T x) (rows.pushed e (rows.popped T.depth here)) h.0 ad (rw is lv) (rw is) w
                 (record {
-                  depths = omega (arith, g.0.depths, st.depth-exact);
+                  depths = omega (arith, g.0.depths, st.depth_exact);
                   variables = g.0.variables;
-                  entries = λ j k. let z : j ≡ 0 = omega (arith, st.depth-exact) in rw z (g.0.entries 0 (omega arith));
+                  entries = λ j k. let z : j ≡ 0 = omega (arith, st.depth_exact) in rw z (g.0.entries 0 (omega arith));
                 });
           }
 
@@ -141,14 +141,14 @@ module _ (P : Typed) (A : Accepted P) (s : State) (inv : Inv P s) (i : ℕ) (li 
   failed-fine h l a f =
       throw-fine h (made P.program.exception) (ref_slot 0) l (and-snd (stack_goes here) _ a) (λ _. sg) f
       (push-stands vars w16 s.objects cls cnt (rows.popped T.depth here) (popped T.depth T) (omega arith)
-      (pop-stands vars w16 s.objects cls cnt here T e16 st T.depth (omega (arith, st.depth-exact)) goes)
-      (ref_slot 0) (made P.program.exception) (omega arith) refl refl (inv.whole.some-object, inv.whole.first-class))
+      (pop-stands vars w16 s.objects cls cnt here T e16 st T.depth (omega (arith, st.depth_exact)) goes)
+      (ref_slot 0) (made P.program.exception) (omega arith) refl refl (inv.whole.some_object, inv.whole.first_class))
     where
       sg : stack_goes here ≡ true
       sg = and-fst (stack_goes here) (uncaught_goes vars h.0 (made P.program.exception) here) a
 
       goes : (j : ℕ) → j < T.depth → no_end ≤ end_of (here.stack j)
-      goes j k = goes_end (here.stack j) (all-elim (entry_goes here) here.depth sg j (omega (arith, st.depth-exact)))
+      goes j k = goes_end (here.stack j) (all-elim (entry_goes here) here.depth sg j (omega (arith, st.depth_exact)))
 
   -- so does null: where a reference e holds it, e may be null, and the rule has the throw
   pub null-fine : (h : Addr) (e : Entry) (x : Slot) → h.0 ≤ (P.program.method T.class).code → (is_reference e || is_nullable e) ≡ true → Matches s.objects cls e x.value → is_null x ≡ true
@@ -165,10 +165,10 @@ module _ (P : Typed) (A : Accepted P) (s : State) (inv : Inv P s) (i : ℕ) (li 
   athrow-fine h l e =
       let x = throw-fine h (here.stack 0) (top_of T) l ug all r.1 (throw-stands vars w16 s.objects cls cnt here T e16 st en below) in
       record {
-        no-fault =
-            went_on_lem _ _ (le-leb 1 T.depth (omega (arith, st.depth-exact, en)))
-            ∙ went_on_lem _ _ (object-is s.objects s.classes P.program.exception (here.stack 0) (top_of T) is (entry-kind vars w16 s.objects cls cnt here T e16 st 0 (omega (arith, st.depth-exact, en))))
-            ∙ x.no-fault;
+        no_fault =
+            went_on_lem _ _ (le-leb 1 T.depth (omega (arith, st.depth_exact, en)))
+            ∙ went_on_lem _ _ (object-is s.objects s.classes P.program.exception (here.stack 0) (top_of T) is (entry-kind vars w16 s.objects cls cnt here T e16 st 0 (omega (arith, st.depth_exact, en))))
+            ∙ x.no_fault;
         good = x.good;
       }
     where

@@ -82,7 +82,7 @@ module _ (P : Typed) (A : Accepted P) (s : State) (inv : Inv P s) (i : ℕ) (li 
   e16 = d16 P A s inv i li lv
 
   kind : (j : ℕ) → j < here.depth → Matches s.objects cls (here.stack j) (from_top T j).value
-  kind j l = entry-kind vars w16 s.objects cls cnt here T e16 st j (omega (arith, st.depth-exact))
+  kind j l = entry-kind vars w16 s.objects cls cnt here T e16 st j (omega (arith, st.depth_exact))
 
   -- stack entry j is the owner
   module _ (j : ℕ) (l : j < here.depth) (o : owner_goes c (here.stack j) ≡ true) where
@@ -113,9 +113,9 @@ module _ (P : Typed) (A : Accepted P) (s : State) (inv : Inv P s) (i : ℕ) (li 
   pub get-fine : Next → rule_holds vars (get_rule vars exception c descriptor h.0 here next caught) ≡ true → Fine P s i (get_fault s i T c limit h) 0 (get_move s i T vars f h)
   unfolding get_rule topped
   get-fine ad e =
-      let x = branches P s i (is_null (top_of T)) _ _ (λ _. 0) _ _ (null-throws 0 en og ng r.1.1) (λ q. record { no-fault = refl; good = λ _. got q }) in
+      let x = branches P s i (is_null (top_of T)) _ _ (λ _. 0) _ _ (null-throws 0 en og ng r.1.1) (λ q. record { no_fault = refl; good = λ _. got q }) in
       record {
-        no-fault = went_on_lem _ _ (le-leb 1 T.depth (omega (arith, st.depth-exact, en))) ∙ went_on_lem _ _ (owner-ok 0 en og) ∙ x.no-fault;
+        no_fault = went_on_lem _ _ (le-leb 1 T.depth (omega (arith, st.depth_exact, en))) ∙ went_on_lem _ _ (owner-ok 0 en og) ∙ x.no_fault;
         good = x.good;
       }
     where
@@ -141,7 +141,7 @@ module _ (P : Typed) (A : Accepted P) (s : State) (inv : Inv P s) (i : ℕ) (li 
       held-kind : is_null (top_of T) ≡ false → Matches s.objects cls (field_entry descriptor) u.value
       held-kind q =
           let o = owned 0 en og q in
-          rw o.1 at (inv.whole.field-holds (object_of (top_of T)) f o.0 (rw o.1 lf))
+          rw o.1 at (inv.whole.field_holds (object_of (top_of T)) f o.0 (rw o.1 lf))
 
       got : is_null (top_of T) ≡ false → Good P s i (went_on s i T.at (topped T u))
       got q =
@@ -151,12 +151,12 @@ module _ (P : Typed) (A : Accepted P) (s : State) (inv : Inv P s) (i : ℕ) (li 
   pub put-fine : Next → rule_holds vars (put_rule vars exception c descriptor h.0 here next caught) ≡ true → Fine P s i (put_fault s i T c descriptor limit h) 0 (put_move s i T vars f h)
   unfolding put_rule popped
   put-fine ad e =
-      let x = branches P s i (is_null (from_top T 1)) _ _ (λ _. 0) _ _ (null-throws 1 en og ng r.1.1) (λ q. record { no-fault = refl; good = λ _. put q }) in
+      let x = branches P s i (is_null (from_top T 1)) _ _ (λ _. 0) _ _ (null-throws 1 en og ng r.1.1) (λ q. record { no_fault = refl; good = λ _. put q }) in
       record {
-        no-fault =
-            went_on_lem _ _ (le-leb 2 T.depth (omega (arith, st.depth-exact, en)))
+        no_fault =
+            went_on_lem _ _ (le-leb 2 T.depth (omega (arith, st.depth_exact, en)))
             ∙ went_on_lem _ _ (rw (field-value-is s.objects s.classes descriptor (here.stack 0) (top_of T) fit (kind 0 (omega (arith, en)))) (owner-ok 1 en og))
-            ∙ x.no-fault;
+            ∙ x.no_fault;
         good = x.good;
       }
     where

@@ -69,32 +69,32 @@ module _ (P : Typed) (A : Accepted P) where
     born-live z m zero =
         record {
           alive = refl;
-          address = record { class-known = lc; first = omega arith; last = A.formed.some-code c lc };
+          address = record { class_known = lc; first = omega arith; last = A.formed.some_code c lc };
           stands = record {
             sized = record { vars = lv; stack = ls };
-            depth-exact = sym (A.first-depth c lc);
+            depth_exact = sym (A.first_depth c lc);
             balanced = keep_all n cls (λ s. Blank) (value_in vars stack) k (entry_at P c 1) (value_in vars stack)
                 (λ s l. each s l (dec_lt s (P.program.method c).args) (dec_lt s Vars) (dec_lt s 16)) (none-balanced n cls (value_in vars stack) k z);
           };
         }
       where
         v16 : Vars ≤ 16
-        v16 = A.formed.vars-16 c lc
+        v16 = A.formed.vars_16 c lc
 
         each : (s : ℕ) → s < 32 → Dec (s < (P.program.method c).args) → Dec (s < Vars) → Dec (s < 16)
             → weights.Slot n cls Blank (value_in vars stack s) (slot_of Vars X s) (value_in vars stack s)
         each s l (yes a) b d =
-            rw (slot-var Vars v16 X s (omega (arith, A.formed.args-vars c lc)))
+            rw (slot-var Vars v16 X s (omega (arith, A.formed.args_vars c lc)))
             (fresh-slot n cls (value_in vars stack s) (argument_entry ((P.program.method c).descriptor s)) (X.variable s) (value_in vars stack s)
             (argument-pair ((P.program.method c).descriptor s)).0 (argument-pair ((P.program.method c).descriptor s)).1 (m s a)
-            (meets-weaker (argument_entry ((P.program.method c).descriptor s)) (X.variable s) (compared _ _ (eqb-true _ _ (A.first-argument c s lc a)))))
+            (meets-weaker (argument_entry ((P.program.method c).descriptor s)) (X.variable s) (compared _ _ (eqb-true _ _ (A.first_argument c s lc a)))))
         each s l (no a) (yes b) d =
-            rw (slot-var Vars v16 X s b, A.first-other c s lc (omega arith) b, zero s (omega arith) (omega (arith, v16)))
+            rw (slot-var Vars v16 X s b, A.first_other c s lc (omega arith) b, zero s (omega arith) (omega (arith, v16)))
             (fresh-slot n cls (num (pos 0)) Top Top (num (pos 0)) refl refl tt (same-weaker Top))
         each s l (no a) (no b) (yes d) =
             rw (slot-novar Vars v16 X s (omega arith) d) (gone-slot n cls Blank (value_in vars stack s) (value_in vars stack s) (omega arith))
         each s l (no a) (no b) (no d) =
-            rw (slot-nostack Vars v16 X s (omega (arith, A.first-depth c lc)))
+            rw (slot-nostack Vars v16 X s (omega (arith, A.first_depth c lc)))
             (gone-slot n cls Blank (value_in vars stack s) (value_in vars stack s) (omega arith))
 
   no-count : (i o : ℕ) → i < 8 → o < 32 → count_of (replicate 256 0) i o ≡ 0
@@ -113,24 +113,24 @@ module _ (P : Typed) (A : Accepted P) where
       (λ _. made-kind 1 (class_of One) thrown f few l) (λ n. absurd (n refl))
     where
       few : thrown.fields ≤ 4
-      few = A.formed.fields-4 P.program.exception A.formed.exception
+      few = A.formed.fields_4 P.program.exception A.formed.exception
 
   inv-one : Inv P One
   inv-one =
       record {
         whole = record {
-          threads-8 = refl;
-          counts-256 = refl;
-          classes-32 = refl;
-          fields-128 = fields-length (replicate 128 zero_slot) 0 (first_fields thrown);
-          held-8 = refl;
-          objects-32 = omega arith;
-          some-object = omega arith;
-          first-class = refl;
-          object-class = λ o l. let q : o ≡ 0 = omega arith in rw q A.formed.exception;
-          one-holder = λ i j o li lj lo x z. no-count j o lj lo;
+          threads_8 = refl;
+          counts_256 = refl;
+          classes_32 = refl;
+          fields_128 = fields-length (replicate 128 zero_slot) 0 (first_fields thrown);
+          held_8 = refl;
+          objects_32 = omega arith;
+          some_object = omega arith;
+          first_class = refl;
+          object_class = λ o l. let q : o ≡ 0 = omega arith in rw q A.formed.exception;
+          one_holder = λ i j o li lj lo x z. no-count j o lj lo;
           worded = λ i o l k. rw (get_or-replicate {A = ℕ} 8 i 0 0 l, no-count i o l k) (no_bits o);
-          field-holds = λ o f l k. let q : o ≡ 0 = omega arith in rw q (first_field f (rw q at k));
+          field_holds = λ o f l k. let q : o ≡ 0 = omega arith in rw q (first_field f (rw q at k));
         };
         thread = λ i l. rw (get_or-replicate 8 i idle idle l)
             (asleep-standing P 1 (class_of One) (count_of (replicate 256 0) i) idle refl
@@ -143,5 +143,5 @@ module _ (P : Typed) (A : Accepted P) where
       rw (grown-is empty_state P.program.exception (first_fields thrown) (omega arith))
       (thread-moves P One 0 (omega arith) (others P One inv-one 0) main_thread
       (live-standing P 1 (class_of One) (count_of (replicate 256 0) 0) main_thread
-      (born-live 1 (class_of One) (count_of (replicate 256 0) 0) 0 A.formed.some-class (replicate 16 zero_slot) (replicate 16 zero_slot) refl refl
-      (λ o k. no-count 0 o (omega arith) k) (λ i l. absurd (omega (arith, A.formed.main-args))) (λ i l b. zeros i b))))
+      (born-live 1 (class_of One) (count_of (replicate 256 0) 0) 0 A.formed.some_class (replicate 16 zero_slot) (replicate 16 zero_slot) refl refl
+      (λ o k. no-count 0 o (omega arith) k) (λ i l. absurd (omega (arith, A.formed.main_args))) (λ i l b. zeros i b))))

@@ -17,7 +17,7 @@ use Rattle.soundness.specs.Invariant.{Live, Inv}
 use Rattle.rules.proofs.Held.{Fits}
 use Rattle.soundness.proofs.Accepted.{Accepted}
 use Rattle.soundness.proofs.Stands.{fit-stands}
-use Rattle.soundness.proofs.Invariant.{vars-16, limit-16, depth-limit}
+use Rattle.soundness.proofs.Invariant.{vars_16, limit_16, depth_limit}
 use Rattle.soundness.proofs.Moves.{Good, went-as}
 
 -- a thread that stands at the row of an address, and goes there, is live
@@ -27,7 +27,7 @@ arrives P n cls k u c m a q ad h =
     record {
       alive = a;
       address = rw q ad;
-      stands = rw q (record { sized = record { vars = h.sized.vars; stack = h.sized.stack }; depth-exact = h.depth-exact; balanced = h.balanced });
+      stands = rw q (record { sized = record { vars = h.sized.vars; stack = h.sized.stack }; depth_exact = h.depth_exact; balanced = h.balanced });
     }
 
 module _ (P : Typed) (A : Accepted P) (s : State) (inv : Inv P s) (i : ℕ) (li : i < 8) (lv : (thread_at s i).live ≡ true) where
@@ -62,17 +62,17 @@ module _ (P : Typed) (A : Accepted P) (s : State) (inv : Inv P s) (i : ℕ) (li 
   H = (inv.thread i li).live lv
 
   pub v16 : vars ≤ 16
-  v16 = vars-16 P A s.objects cls cnt T H
+  v16 = vars_16 P A s.objects cls cnt T H
 
   pub d16 : T.depth ≤ 16
-  d16 = omega (arith, depth-limit P A s.objects cls cnt T H, limit-16 P A s.objects cls cnt T H)
+  d16 = omega (arith, depth_limit P A s.objects cls cnt T H, limit_16 P A s.objects cls cnt T H)
 
   pub at_here : Stands vars s.objects cls cnt here T
   at_here = H.stands
 
   -- there is room for a push that fits
   pub has_room : (m : ℕ) → Address P.program C m → T.depth + 1 ≤ (P.row C m).depth → T.depth < limit
-  has_room m a l = omega (arith, A.depth-limit C m a)
+  has_room m a l = omega (arith, A.depth_limit C m a)
 
   -- the thread goes on as u, which stands at x, along an edge that fits
   pub goes_to : (u : Thread) (x : Row) (m : ℕ) → Address P.program C m → u.live ≡ true → u.class ≡ C

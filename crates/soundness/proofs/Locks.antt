@@ -101,7 +101,7 @@ module _ (P : Typed) (A : Accepted P) (s : State) (inv : Inv P s) (i : ℕ) (li 
       (arrives P s.objects cls _ T T.class (T.at.0 + 1) lv refl ad (fit-stands vars w16 s.objects cls _ (moved x) next T e h))))
 
   known : (x : Row) → Stands vars s.objects cls cnt x T → is_reference (x.variable v.0) ≡ true → O < 32
-  known x h q = omega (arith, object-known vars w16 s.objects cls cnt x T e16 h v.0 l q, inv.whole.objects-32)
+  known x h q = omega (arith, object-known vars w16 s.objects cls cnt x T e16 h v.0 l q, inv.whole.objects_32)
 
   -- the lock is taken, where the thread stands at the row x, with a reference at v
   take-fine : (x : Row) → Stands vars s.objects cls cnt x T → is_reference (x.variable v.0) ≡ true → Next → Fits vars (edge x (wants_at v.0 (want_entered (next.variable v.0)) next))
@@ -110,7 +110,7 @@ module _ (P : Typed) (A : Accepted P) (s : State) (inv : Inv P s) (i : ℕ) (li 
       let p = fits-at vars v.0 x next l (want_entered (next.variable v.0)) f in
       let lo : O < 32 = known x h q in
       record {
-        no-fault = went_on_lem _ _ (lt-ltb (cnt O) 2047 (omega (arith, bounded P A s inv i O li lo)));
+        no_fault = went_on_lem _ _ (lt-ltb (cnt O) 2047 (omega (arith, bounded P A s inv i O li lo)));
         good = λ w. count-goes x (cnt O + 1) lo (λ _. free-others O (tested _ _ _ w).0) ad p.1
             (enter-stands vars w16 s.objects cls cnt x T e16 h v.0 l q (next.variable v.0) p.0.kind _
             (λ o k z. count-other P s i li away i O o (cnt O + 1) lo k (λ _. z))
@@ -155,7 +155,7 @@ module _ (P : Typed) (A : Accepted P) (s : State) (inv : Inv P s) (i : ℕ) (li 
       (λ q. null-fine P A s inv i li lv h lock (var_of T v.0) lh k kind q (and-snd (is_reference lock || is_nullable lock) _ r.0) r.1.1)
       (λ q. let c = counts-as k q in take-fine (unnulled v.0 here) c.1 c.0 ad r.1.0) in
       record {
-        no-fault = went_on_lem _ _ (ap not (no-int s.objects cls lock (var_of T v.0).value k kind)) ∙ x.no-fault;
+        no_fault = went_on_lem _ _ (ap not (no-int s.objects cls lock (var_of T v.0).value k kind)) ∙ x.no_fault;
         good = x.good;
       }
 
@@ -171,15 +171,15 @@ module _ (P : Typed) (A : Accepted P) (s : State) (inv : Inv P s) (i : ℕ) (li 
       let lo : O < 32 = known here st r.0 in
       let some : 0 < cnt O = holds-it r.0 p.0 in
       record {
-        no-fault = went_on_lem _ _ (is-object vars w16 s.objects cls cnt here T e16 st v.0 l r.0) ∙ went_on_lem _ _ (lt-ltb 0 (cnt O) some);
-        good = λ _. count-goes here (cnt O - 1) lo (λ _ j lj x. inv.whole.one-holder i j O li lj lo (λ q. x (sym q)) some) ad p.1
+        no_fault = went_on_lem _ _ (is-object vars w16 s.objects cls cnt here T e16 st v.0 l r.0) ∙ went_on_lem _ _ (lt-ltb 0 (cnt O) some);
+        good = λ _. count-goes here (cnt O - 1) lo (λ _ j lj x. inv.whole.one_holder i j O li lj lo (λ q. x (sym q)) some) ad p.1
             (exit-stands vars w16 s.objects cls cnt here T e16 st v.0 l r.0 (next.variable v.0) p.0.kind _
             (λ o k x. count-other P s i li away i O o (cnt O - 1) lo k (λ _. x))
             (rw (count_same P s i li away O (cnt O - 1) lo) (omega arith)) p.0);
       }
 
-  pub leaves-held : rule_holds vars (exit_rule v.0 here next) ≡ true → 0 < cnt O
+  pub leaves_held : rule_holds vars (exit_rule v.0 here next) ≡ true → 0 < cnt O
   unfolding exit_rule
-  leaves-held e =
+  leaves_held e =
       let r = held vars (exit_rule v.0 here next) e in
       holds-it r.0 (fits-at vars v.0 here next l (want_exited (next.variable v.0)) r.1.0).0

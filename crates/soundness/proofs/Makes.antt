@@ -73,7 +73,7 @@ module _ (P : Typed) (A : Accepted P) (s : State) (inv : Inv P s) (i : ℕ) (li 
 
   make-fine : (c : ℕ) → c < P.program.classes → s.objects < 32 → Next → Fits vars (edge (rows.pushed (Ref c 0 no_end) here) (wants next)) → Fine P s i (push_fault T limit) 0 (make_move P.program s i T c)
   make-fine c lc lo ad f =
-      record { no-fault = went_on_lem _ _ (lt-ltb T.depth limit room); good = λ _. moved }
+      record { no_fault = went_on_lem _ _ (lt-ltb T.depth limit room); good = λ _. moved }
     where
       first : List Slot
       first = first_fields (P.program.method c)
@@ -82,10 +82,10 @@ module _ (P : Typed) (A : Accepted P) (s : State) (inv : Inv P s) (i : ℕ) (li 
       made = ref_slot s.objects
 
       room : T.depth < limit
-      room = has_room P A s inv i li lv (T.at.0 + 1) ad (omega (arith, f.depths, st.depth-exact))
+      room = has_room P A s inv i li lv (T.at.0 + 1) ad (omega (arith, f.depths, st.depth_exact))
 
       below : T.depth < 16
-      below = omega (arith, room, A.formed.limit-16 T.class ad.class-known)
+      below = omega (arith, room, A.formed.limit_16 T.class ad.class_known)
 
       more : Live P (s.objects + 1) (class_of (grown s c first)) cnt T
       more =
@@ -101,7 +101,7 @@ module _ (P : Typed) (A : Accepted P) (s : State) (inv : Inv P s) (i : ℕ) (li 
           (arrives P (s.objects + 1) (class_of (grown s c first)) cnt (pushed T made) T.class (T.at.0 + 1) (rw (pushed-is T made below) lv) (rw (pushed-is T made below)) ad
           (fit-stands vars w16 (s.objects + 1) (class_of (grown s c first)) cnt (rows.pushed (Ref c 0 no_end) here) next (pushed T made) f
           (push-stands vars w16 (s.objects + 1) (class_of (grown s c first)) cnt here T e16 more.stands made (Ref c 0 no_end) below refl refl
-          (omega arith, get_or-set_same s.classes s.objects c 0 (omega (arith, inv.whole.classes-32)))))))))
+          (omega arith, get_or-set_same s.classes s.objects c 0 (omega (arith, inv.whole.classes_32)))))))))
 
   pub new-fine : (c : ℕ) (h : Addr) (fails : Bool) → c < P.program.classes → h.0 ≤ (P.program.method T.class).code → Next
       → rule_holds vars (new_rule vars P.program.exception c h.0 here next (P.row T.class h.0)) ≡ true → Fine P s i (new_fault s i T limit h fails) 0 (new_move P.program s i T vars c h fails)

@@ -47,7 +47,7 @@ module _ (P : Typed) where
           address = (h.live a).address;
           stands = record {
             sized = (h.live a).stands.sized;
-            depth-exact = (h.live a).stands.depth-exact;
+            depth_exact = (h.live a).stands.depth_exact;
             balanced = balanced-more n cls (entry_at P t.class t.at.0) (value_of t) k (h.live a).stands.balanced n' cls' k' ln lc qk;
           };
         };
@@ -66,24 +66,24 @@ module _ (P : Typed) where
     thread-moves u st =
         record {
           whole = record {
-            threads-8 = length-set s.threads i u ∙ h.whole.threads-8;
-            counts-256 = h.whole.counts-256;
-            classes-32 = h.whole.classes-32;
-            fields-128 = h.whole.fields-128;
-            held-8 = h.whole.held-8;
-            objects-32 = h.whole.objects-32;
-            some-object = h.whole.some-object;
-            first-class = h.whole.first-class;
-            object-class = h.whole.object-class;
-            one-holder = h.whole.one-holder;
+            threads_8 = length-set s.threads i u ∙ h.whole.threads_8;
+            counts_256 = h.whole.counts_256;
+            classes_32 = h.whole.classes_32;
+            fields_128 = h.whole.fields_128;
+            held_8 = h.whole.held_8;
+            objects_32 = h.whole.objects_32;
+            some_object = h.whole.some_object;
+            first_class = h.whole.first_class;
+            object_class = h.whole.object_class;
+            one_holder = h.whole.one_holder;
             worded = h.whole.worded;
-            field-holds = h.whole.field-holds;
+            field_holds = h.whole.field_holds;
           };
           thread = λ j l. go j l (ℕ_discrete j i);
         }
       where
         go : (j : ℕ) → j < 8 → Dec (j ≡ i) → Standing P s.objects (class_of s) (count_of s.counts j) (get_or (set s.threads i u) j idle)
-        go j l (yes q) = rw (q, get_or-set_same s.threads i u idle (omega (arith, h.whole.threads-8))) st
+        go j l (yes q) = rw (q, get_or-set_same s.threads i u idle (omega (arith, h.whole.threads_8))) st
         go j l (no q) = rw (get_or-set_other s.threads i j u idle q) (h.thread j l q)
 
     -- another place of the counts
@@ -91,37 +91,37 @@ module _ (P : Typed) where
     count-other j o p n lo lp f = get_or-set_other s.counts (i * 32 + o) (j * 32 + p) n 0 (λ q. f (omega arith) (omega arith))
 
     pub count_same : (o n : ℕ) → o < 32 → count_of (set s.counts (i * 32 + o) n) i o ≡ n
-    count_same o n lo = get_or-set_same s.counts (i * 32 + o) n 0 (omega (arith, h.whole.counts-256))
+    count_same o n lo = get_or-set_same s.counts (i * 32 + o) n 0 (omega (arith, h.whole.counts_256))
 
     -- thread i's count of o becomes n
     pub count-moves : (o n : ℕ) → o < 32 → (0 < n → (j : ℕ) → j < 8 → j ≢ i → count_of s.counts j o ≡ 0) → Others P (with_count s i o n) i
     count-moves o n lo f =
         record {
           whole = record {
-            threads-8 = h.whole.threads-8;
-            counts-256 = (counted-sized s sized i o n).counts-256;
-            classes-32 = h.whole.classes-32;
-            fields-128 = h.whole.fields-128;
-            held-8 = (counted-sized s sized i o n).held-8;
-            objects-32 = h.whole.objects-32;
-            some-object = h.whole.some-object;
-            first-class = h.whole.first-class;
-            object-class = h.whole.object-class;
-            one-holder = λ j k p lj lk lp x z. sole j k p lj lk lp x z (ℕ_discrete p o) (ℕ_discrete j i) (ℕ_discrete k i);
+            threads_8 = h.whole.threads_8;
+            counts_256 = (counted-sized s sized i o n).counts_256;
+            classes_32 = h.whole.classes_32;
+            fields_128 = h.whole.fields_128;
+            held_8 = (counted-sized s sized i o n).held_8;
+            objects_32 = h.whole.objects_32;
+            some_object = h.whole.some_object;
+            first_class = h.whole.first_class;
+            object_class = h.whole.object_class;
+            one_holder = λ j k p lj lk lp x z. sole j k p lj lk lp x z (ℕ_discrete p o) (ℕ_discrete j i) (ℕ_discrete k i);
             worded = words-written s h.whole.worded sized i o n li lo;
-            field-holds = h.whole.field-holds;
+            field_holds = h.whole.field_holds;
           };
           thread = λ j l n'. standing-more s.objects (class_of s) (count_of s.counts j) s.objects (class_of s) _ (thread_at s j) (omega arith) (λ r _. refl)
               (λ p lp. count-other j o p n lo lp (λ q. absurd (n' q))) (h.thread j l n');
         }
       where
         sized : Sized s
-        sized = record { counts-256 = h.whole.counts-256; held-8 = h.whole.held-8 }
+        sized = record { counts_256 = h.whole.counts_256; held_8 = h.whole.held_8 }
 
         sole : (j k p : ℕ) → j < 8 → k < 8 → p < 32 → j ≢ k → 0 < count_of (set s.counts (i * 32 + o) n) j p → Dec (p ≡ o) → Dec (j ≡ i) → Dec (k ≡ i)
             → count_of (set s.counts (i * 32 + o) n) k p ≡ 0
         sole j k p lj lk lp x z (no d) e g =
-            count-other k o p n lo lp (λ _. d) ∙ h.whole.one-holder j k p lj lk lp x (rw (count-other j o p n lo lp (λ _. d)) at z)
+            count-other k o p n lo lp (λ _. d) ∙ h.whole.one_holder j k p lj lk lp x (rw (count-other j o p n lo lp (λ _. d)) at z)
         sole j k p lj lk lp x z (yes d) (yes e) (yes g) = absurd (x (cc))
         sole j k p lj lk lp x z (yes d) (yes e) (no g) =
             count-other k o p n lo lp (λ q. absurd (g q)) ∙ (rw d (f (rw (e, d, count_same o n lo) at z) k lk g))
@@ -133,25 +133,25 @@ module _ (P : Typed) where
             zero_of (yes c) y w = absurd (omega (arith, y c))
             zero_of (no c) y w = omega arith
         sole j k p lj lk lp x z (yes d) (no e) (no g) =
-            count-other k o p n lo lp (λ q. absurd (g q)) ∙ h.whole.one-holder j k p lj lk lp x (rw (count-other j o p n lo lp (λ q. absurd (e q))) at z)
+            count-other k o p n lo lp (λ q. absurd (g q)) ∙ h.whole.one_holder j k p lj lk lp x (rw (count-other j o p n lo lp (λ q. absurd (e q))) at z)
 
     -- one object more, its fields as new writes them
     pub object-grows : Accepted P → (c : ℕ) → c < P.program.classes → s.objects < 32 → Others P (grown s c (first_fields (P.program.method c))) i
     object-grows A c lc lo =
         record {
           whole = record {
-            threads-8 = h.whole.threads-8;
-            counts-256 = h.whole.counts-256;
-            classes-32 = length-set s.classes s.objects c ∙ h.whole.classes-32;
-            fields-128 = fields-length s.fields s.objects first ∙ h.whole.fields-128;
-            held-8 = h.whole.held-8;
-            objects-32 = omega arith;
-            some-object = omega arith;
-            first-class = older 0 h.whole.some-object ∙ h.whole.first-class;
-            object-class = λ o l. class o l (ℕ_discrete o s.objects);
-            one-holder = h.whole.one-holder;
+            threads_8 = h.whole.threads_8;
+            counts_256 = h.whole.counts_256;
+            classes_32 = length-set s.classes s.objects c ∙ h.whole.classes_32;
+            fields_128 = fields-length s.fields s.objects first ∙ h.whole.fields_128;
+            held_8 = h.whole.held_8;
+            objects_32 = omega arith;
+            some_object = omega arith;
+            first_class = older 0 h.whole.some_object ∙ h.whole.first_class;
+            object_class = λ o l. class o l (ℕ_discrete o s.objects);
+            one_holder = h.whole.one_holder;
             worded = h.whole.worded;
-            field-holds = field;
+            field_holds = field;
           };
           thread = λ j l n. standing-more s.objects (class_of s) (count_of s.counts j) (s.objects + 1) (class_of (grown s c first)) (count_of s.counts j) (thread_at s j) (omega arith)
               older (λ o _. refl) (h.thread j l n);
@@ -164,25 +164,25 @@ module _ (P : Typed) where
         older o l = get_or-set_other s.classes s.objects o c 0 (omega arith)
 
         newest : class_of (grown s c first) s.objects ≡ c
-        newest = get_or-set_same s.classes s.objects c 0 (omega (arith, h.whole.classes-32))
+        newest = get_or-set_same s.classes s.objects c 0 (omega (arith, h.whole.classes_32))
 
         class : (o : ℕ) → o < s.objects + 1 → Dec (o ≡ s.objects) → class_of (grown s c first) o < P.program.classes
         class o l (yes q) = rw (q, newest) lc
-        class o l (no q) = rw (older o (omega arith)) (h.whole.object-class o (omega arith))
+        class o l (no q) = rw (older o (omega arith)) (h.whole.object_class o (omega arith))
 
         few : (o f : ℕ) → o < s.objects + 1 → f < (P.program.method (class_of (grown s c first) o)).fields → f < 4
-        few o f l k = omega (arith, A.formed.fields-4 (class_of (grown s c first) o) (class o l (ℕ_discrete o s.objects)))
+        few o f l k = omega (arith, A.formed.fields_4 (class_of (grown s c first) o) (class o l (ℕ_discrete o s.objects)))
 
         field : (o f : ℕ) → o < s.objects + 1 → f < (P.program.method (class_of (grown s c first) o)).fields
             → Matches (s.objects + 1) (class_of (grown s c first)) (field_entry ((P.program.method (class_of (grown s c first) o)).field f)) (field_of (fields_with s.fields s.objects first) o f).value
         field o f l k =
             fields-written s.fields s.objects first
             (λ (x : Slot). Matches (s.objects + 1) (class_of (grown s c first)) (field_entry ((P.program.method (class_of (grown s c first) o)).field f)) x.value)
-            o f (omega (arith, h.whole.fields-128)) (few o f l k)
-            (λ q. rw (q, newest) (made-kind (s.objects + 1) (class_of (grown s c first)) (P.program.method c) f (A.formed.fields-4 c lc) (rw (q, newest) at k)))
+            o f (omega (arith, h.whole.fields_128)) (few o f l k)
+            (λ q. rw (q, newest) (made-kind (s.objects + 1) (class_of (grown s c first)) (P.program.method c) f (A.formed.fields_4 c lc) (rw (q, newest) at k)))
             (λ q. let lo : o < s.objects = omega arith in rw (older o lo)
             (more-kind s.objects (class_of s) (s.objects + 1) (class_of (grown s c first)) (omega arith) older
-            (field_entry ((P.program.method (class_of s o)).field f)) (field_of s.fields o f).value (h.whole.field-holds o f lo (rw (older o lo) at k))))
+            (field_entry ((P.program.method (class_of s o)).field f)) (field_of s.fields o f).value (h.whole.field_holds o f lo (rw (older o lo) at k))))
 
     -- field f of object o becomes x
     pub field-moves : Accepted P → (o f : ℕ) (x : Slot) → o < s.objects → f < (P.program.method (class_of s o)).fields
@@ -190,32 +190,32 @@ module _ (P : Typed) where
     field-moves A o f x lo lf m =
         record {
           whole = record {
-            threads-8 = h.whole.threads-8;
-            counts-256 = h.whole.counts-256;
-            classes-32 = h.whole.classes-32;
-            fields-128 = length-set s.fields (o * 4 + f) x ∙ h.whole.fields-128;
-            held-8 = h.whole.held-8;
-            objects-32 = h.whole.objects-32;
-            some-object = h.whole.some-object;
-            first-class = h.whole.first-class;
-            object-class = h.whole.object-class;
-            one-holder = h.whole.one-holder;
+            threads_8 = h.whole.threads_8;
+            counts_256 = h.whole.counts_256;
+            classes_32 = h.whole.classes_32;
+            fields_128 = length-set s.fields (o * 4 + f) x ∙ h.whole.fields_128;
+            held_8 = h.whole.held_8;
+            objects_32 = h.whole.objects_32;
+            some_object = h.whole.some_object;
+            first_class = h.whole.first_class;
+            object_class = h.whole.object_class;
+            one_holder = h.whole.one_holder;
             worded = h.whole.worded;
-            field-holds = field;
+            field_holds = field;
           };
           thread = h.thread;
         }
       where
         few : (p g : ℕ) → p < s.objects → g < (P.program.method (class_of s p)).fields → g < 4
-        few p g lp lg = omega (arith, A.formed.fields-4 (class_of s p) (h.whole.object-class p lp))
+        few p g lp lg = omega (arith, A.formed.fields_4 (class_of s p) (h.whole.object_class p lp))
 
         field : (p g : ℕ) → p < s.objects → g < (P.program.method (class_of s p)).fields
             → Matches s.objects (class_of s) (field_entry ((P.program.method (class_of s p)).field g)) (field_of (set s.fields (o * 4 + f) x) p g).value
         field p g lp lg =
             written (λ (y : Slot). Matches s.objects (class_of s) (field_entry ((P.program.method (class_of s p)).field g)) y.value)
-            s.fields (o * 4 + f) (p * 4 + g) x (omega (arith, few o f lo lf, h.whole.objects-32, h.whole.fields-128))
+            s.fields (o * 4 + f) (p * 4 + g) x (omega (arith, few o f lo lf, h.whole.objects_32, h.whole.fields_128))
             (λ q. let e : p ≡ o = omega (arith, few o f lo lf, few p g lp lg) in let d : g ≡ f = omega arith in rw (e, d) m)
-            (λ _. h.whole.field-holds p g lp lg)
+            (λ _. h.whole.field_holds p g lp lg)
 
 pub grown-is : (s : State) (c : ℕ) (first : List Slot) → s.objects < 32 → with_object s c first ≡ grown s c first
 unfolding with_object
@@ -251,7 +251,7 @@ module _ (P : Typed) (s : State) (i : ℕ) where
 
 -- ---- an instruction of thread i under its rule: it draws no fault, and where it doesn't wait, its move is a good step
 pub record Fine (P : Typed) (s : State) (i fault wait : ℕ) (move : Stepped) : Type 0 where
-  pub no-fault : fault ≡ 0
+  pub no_fault : fault ≡ 0
   pub good : wait ≡ 0 → Good P s i move
 
 -- .. by cases, each of which may wait

@@ -100,9 +100,9 @@ fits-weaker vars x y v16 f s = go (dec_lt s vars) (dec_lt s 16) (dec_lt s (16 + 
 
 -- ---- all may go
 module _ (vars : ℕ) (v16 : vars ≤ 16) (x : Row) where
-  pub stack-end : stack_goes x ≡ true → (s : ℕ) → 16 ≤ s → no_end ≤ end_of (slot_of vars x s)
+  pub stack_end : stack_goes x ≡ true → (s : ℕ) → 16 ≤ s → no_end ≤ end_of (slot_of vars x s)
   unfolding stack_goes
-  stack-end g s h = go (dec_lt s (16 + x.depth))
+  stack_end g s h = go (dec_lt s (16 + x.depth))
     where
       stk : (j : ℕ) → s + j + 1 ≡ 16 + x.depth → no_end ≤ end_of (slot_of vars x s)
       stk j e = rw (slot-stack vars v16 x s j h e) (goes_end (x.stack j) (all-elim (entry_goes x) x.depth g j (omega arith)))

@@ -74,12 +74,12 @@ module _ (P : Typed) (A : Accepted P) (s : State) (inv : Inv P s) (i : ℕ) (li 
 
   -- the stack has its top, and that is an integer
   has-top : 1 ≤ here.depth → top_fault T ≡ 0
-  has-top en = went_on_lem _ _ (le-leb 1 T.depth (omega (arith, st.depth-exact)))
+  has-top en = went_on_lem _ _ (le-leb 1 T.depth (omega (arith, st.depth_exact)))
 
   has-int : 1 ≤ here.depth → is_int (here.stack 0) ≡ true → int_fault T ≡ 0
   has-int en e =
-      went_on_lem _ _ (le-leb 1 T.depth (omega (arith, st.depth-exact)))
-      ∙ went_on_lem _ _ (int-value s.objects cls (here.stack 0) (top_of T).value e (entry-kind vars w16 s.objects cls cnt here T e16 st 0 (omega (arith, st.depth-exact))))
+      went_on_lem _ _ (le-leb 1 T.depth (omega (arith, st.depth_exact)))
+      ∙ went_on_lem _ _ (int-value s.objects cls (here.stack 0) (top_of T).value e (entry-kind vars w16 s.objects cls cnt here T e16 st 0 (omega (arith, st.depth_exact))))
 
   pub inc-fine : Next → rule_holds vars (inc_rule here next) ≡ true → Fine P s i (int_fault T) 0 (inc_move s i T)
   unfolding inc_rule topped
@@ -88,7 +88,7 @@ module _ (P : Typed) (A : Accepted P) (s : State) (inv : Inv P s) (i : ℕ) (li 
       let en : 1 ≤ here.depth = leb-true _ _ (and-fst (leb 1 here.depth) (is_int (here.stack 0)) r.0) in
       let it : is_int (here.stack 0) ≡ true = and-snd (leb 1 here.depth) (is_int (here.stack 0)) r.0 in
       record {
-        no-fault = has-int en it;
+        no_fault = has-int en it;
         good = λ _. goes_to P A s inv i li lv (topped T (inc_slot (top_of T))) _ (T.at.0 + 1) ad lv refl
             (top-stands vars w16 s.objects cls cnt here T e16 st (inc_slot (top_of T)) Int en (int-goes (here.stack 0) it) refl refl (int-inc s.objects cls (here.stack 0) (top_of T).value it)) r.1.0;
       }
@@ -107,7 +107,7 @@ module _ (P : Typed) (A : Accepted P) (s : State) (inv : Inv P s) (i : ℕ) (li 
       let r = held vars (pop_rule here next) e in
       let en : 1 ≤ here.depth = leb-true _ _ (and-fst (leb 1 here.depth) (may_go (here.stack 0)) r.0) in
       record {
-        no-fault = has-top en;
+        no_fault = has-top en;
         good = λ _. pop-to (T.at.0 + 1) ad en (goes_end (here.stack 0) (and-snd (leb 1 here.depth) (may_go (here.stack 0)) r.0)) r.1.0;
       }
 
@@ -118,7 +118,7 @@ module _ (P : Typed) (A : Accepted P) (s : State) (inv : Inv P s) (i : ℕ) (li 
       let en : 1 ≤ here.depth = leb-true _ _ (and-fst (leb 1 here.depth) (is_int (here.stack 0)) r.0) in
       let it : is_int (here.stack 0) ≡ true = and-snd (leb 1 here.depth) (is_int (here.stack 0)) r.0 in
       record {
-        no-fault = has-int en it;
+        no_fault = has-int en it;
         good = λ _. either (Good P s i) (jumps (top_of T)) _ _
             (λ _. pop-to a.0 at en (int-goes (here.stack 0) it) r.1.1.0)
             (λ _. pop-to (T.at.0 + 1) ad en (int-goes (here.stack 0) it) r.1.0);
@@ -128,10 +128,10 @@ module _ (P : Typed) (A : Accepted P) (s : State) (inv : Inv P s) (i : ℕ) (li 
   push-to : (u : Slot) (x : Row) → Next → x.depth ≡ here.depth + 1 → (T.depth < 16 → Stands vars s.objects cls cnt x (pushed T u)) → Fits vars (edge x (wants next))
       → Fine P s i (push_fault T limit) 0 (went_on s i T.at (pushed T u))
   push-to u x ad d g f =
-      let l : T.depth < limit = has_room P A s inv i li lv (T.at.0 + 1) ad (omega (arith, d, f.depths, st.depth-exact)) in
-      let b : T.depth < 16 = omega (arith, A.formed.limit-16 T.class ad.class-known) in
+      let l : T.depth < limit = has_room P A s inv i li lv (T.at.0 + 1) ad (omega (arith, d, f.depths, st.depth_exact)) in
+      let b : T.depth < 16 = omega (arith, A.formed.limit_16 T.class ad.class_known) in
       record {
-        no-fault = went_on_lem _ _ (lt-ltb T.depth limit l);
+        no_fault = went_on_lem _ _ (lt-ltb T.depth limit l);
         good = λ _. goes_to P A s inv i li lv (pushed T u) x (T.at.0 + 1) ad (rw (pushed-is T u b) lv) (rw (pushed-is T u b)) (g b) f;
       }
 
@@ -164,7 +164,7 @@ module _ (P : Typed) (A : Accepted P) (s : State) (inv : Inv P s) (i : ℕ) (li 
       let r = held vars (store_rule v.0 here next) e in
       let en : 1 ≤ here.depth = leb-true _ _ (and-fst (leb 1 here.depth) (may_go (here.variable v.0)) r.0) in
       record {
-        no-fault = has-top en;
+        no_fault = has-top en;
         good = λ _. goes_to P A s inv i li lv (popped 1 (stored T v.0 (top_of T))) _ (T.at.0 + 1) ad lv refl
             (store-stands vars w16 s.objects cls cnt here T e16 st v.0 l en (goes_end (here.variable v.0) (and-snd (leb 1 here.depth) (may_go (here.variable v.0)) r.0))) r.1.0;
       }

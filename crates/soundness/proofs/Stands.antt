@@ -40,7 +40,7 @@ pub fit-stands : (vars : ℕ) → vars ≤ 16 → (n : ℕ) (cls k : ℕ → ℕ
 fit-stands vars v16 n cls k x y t f h =
     record {
       sized = h.sized;
-      depth-exact = h.depth-exact ∙ f.depths;
+      depth_exact = h.depth_exact ∙ f.depths;
       balanced = keep_all n cls (slot_of vars x) (value_of t) k (slot_of vars y) (value_of t)
           (λ s l. kept_slot n cls (slot_of vars x s) (slot_of vars y s) (value_of t s) (value_of t s) refl (fits-weaker vars x y v16 f s)) h.balanced;
     }
@@ -55,7 +55,7 @@ module _ (vars : ℕ) (v16 : vars ≤ 16) (n : ℕ) (cls k : ℕ → ℕ) (x : R
     where
       go : (s : ℕ) → s + j + 1 ≡ 16 + t.depth → Matches n cls (x.stack j) (from_top t j).value
       go s q =
-          rw (slot-stack vars v16 x s j (omega arith) (omega (arith, h.depth-exact)), value-entry t s j (omega arith) q)
+          rw (slot-stack vars v16 x s j (omega arith) (omega (arith, h.depth_exact)), value-entry t s j (omega arith) q)
           at (h.balanced.kinds s (omega arith))
 
   -- ---- a entries gone from the top
@@ -64,7 +64,7 @@ module _ (vars : ℕ) (v16 : vars ≤ 16) (n : ℕ) (cls k : ℕ → ℕ) (x : R
   pop-stands a e g =
       record {
         sized = record { vars = h.sized.vars; stack = fill-length (t.depth - a) zero_slot t.stack a ∙ h.sized.stack };
-        depth-exact = ap (λ (d : ℕ). d - a) h.depth-exact;
+        depth_exact = ap (λ (d : ℕ). d - a) h.depth_exact;
         balanced = keep_all n cls (slot_of vars x) (value_of t) k (slot_of vars (rows.popped a x)) _ (λ s l. each s l (dec_lt s (16 + (x.depth - a)))) h.balanced;
       }
     where
@@ -77,7 +77,7 @@ module _ (vars : ℕ) (v16 : vars ≤ 16) (n : ℕ) (cls k : ℕ → ℕ) (x : R
 
       each : (s : ℕ) → s < 32 → Dec (s < 16 + (x.depth - a))
           → weights.Slot n cls (slot_of vars x s) (value_of t s) (slot_of vars (rows.popped a x) s) (value_in t.vars (fill_from (t.depth - a) a zero_slot t.stack) s)
-      each s l (yes f) = same-slot n cls _ _ _ _ (value-fill t.vars t.stack (t.depth - a) a s (omega (arith, h.depth-exact))) (slot-popped vars v16 x a s e f)
+      each s l (yes f) = same-slot n cls _ _ _ _ (value-fill t.vars t.stack (t.depth - a) a s (omega (arith, h.depth_exact))) (slot-popped vars v16 x a s e f)
       each s l (no f) =
           rw (slot-nostack vars v16 (rows.popped a x) s (omega arith))
           (gone-slot n cls (slot_of vars x s) (value_of t s) _ (out s (omega arith) (dec_lt s (16 + x.depth))))
@@ -88,7 +88,7 @@ module _ (vars : ℕ) (v16 : vars ≤ 16) (n : ℕ) (cls k : ℕ → ℕ) (x : R
       rw (pushed-is t u below)
       (record {
         sized = record { vars = h.sized.vars; stack = length-set t.stack t.depth u ∙ h.sized.stack };
-        depth-exact = ap (λ (d : ℕ). d + 1) h.depth-exact;
+        depth_exact = ap (λ (d : ℕ). d + 1) h.depth_exact;
         balanced = keep_all n cls (slot_of vars x) (value_of t) k (slot_of vars (rows.pushed e x)) _ (λ s l. each s l (ℕ_discrete s (16 + t.depth))) h.balanced;
       })
     where
@@ -96,14 +96,14 @@ module _ (vars : ℕ) (v16 : vars ≤ 16) (n : ℕ) (cls k : ℕ → ℕ) (x : R
           → weights.Slot n cls (slot_of vars x s) (value_of t s) (slot_of vars (rows.pushed e x) s) (value_in t.vars (set t.stack t.depth u) s)
       each s l (yes q) =
           rw (
-            slot-nostack vars v16 x s (omega (arith, h.depth-exact)),
-            slot_pushed vars v16 x e s (omega (arith, h.depth-exact)),
+            slot-nostack vars v16 x s (omega (arith, h.depth_exact)),
+            slot_pushed vars v16 x e s (omega (arith, h.depth_exact)),
             value_set t.vars t.stack t.depth s u (omega (arith, h.sized.stack)) q,
           )
           (fresh-slot n cls (value_of t s) e e u.value ed ee m (same-weaker e))
       each s l (no q) =
           same-slot n cls _ _ _ _ (value-set-other t.vars t.stack t.depth s u q)
-          (slot-pushed-other vars v16 x e s (λ p. q (omega (arith, h.depth-exact))))
+          (slot-pushed-other vars v16 x e s (λ p. q (omega (arith, h.depth_exact))))
 
   -- ---- athrow: the top alone stays, at the bottom; all below it may go
   pub throw-stands : 1 ≤ x.depth → ((j : ℕ) → 1 ≤ j → j < x.depth → no_end ≤ end_of (x.stack j))
@@ -113,7 +113,7 @@ module _ (vars : ℕ) (v16 : vars ≤ 16) (n : ℕ) (cls k : ℕ → ℕ) (x : R
       rw (pushed-is (popped t.depth t) (top_of t) (omega arith))
       (record {
         sized = record { vars = h.sized.vars; stack = length-set (fill_from (t.depth - t.depth) t.depth zero_slot t.stack) (t.depth - t.depth) (top_of t) ∙ filled };
-        depth-exact = omega (arith, h.depth-exact);
+        depth_exact = omega (arith, h.depth_exact);
         balanced = go (ℕ_discrete t.depth 1);
       })
     where
@@ -131,28 +131,28 @@ module _ (vars : ℕ) (v16 : vars ≤ 16) (n : ℕ) (cls k : ℕ → ℕ) (x : R
 
       -- what is not the top may go
       out : (s : ℕ) → 16 ≤ s → s ≢ 15 + t.depth → Dec (s < 16 + x.depth) → no_end ≤ end_of (slot_of vars x s)
-      out s f b (yes e) = stk s (15 + x.depth - s) f (omega arith) (omega (arith, h.depth-exact))
+      out s f b (yes e) = stk s (15 + x.depth - s) f (omega arith) (omega (arith, h.depth_exact))
       out s f b (no e) = rw (slot-nostack vars v16 x s (omega arith)) (omega arith)
 
       bottom : slot_of vars y 16 ≡ x.stack 0
-      bottom = slot_pushed vars v16 (rows.popped t.depth x) (x.stack 0) 16 (omega (arith, h.depth-exact))
+      bottom = slot_pushed vars v16 (rows.popped t.depth x) (x.stack 0) 16 (omega (arith, h.depth_exact))
 
       top : slot_of vars x (15 + t.depth) ≡ x.stack 0
-      top = slot-stack vars v16 x (15 + t.depth) 0 (omega (arith, h.depth-exact)) (omega (arith, h.depth-exact))
+      top = slot-stack vars v16 x (15 + t.depth) 0 (omega (arith, h.depth_exact)) (omega (arith, h.depth_exact))
 
       value : after 16 ≡ value_of t (15 + t.depth)
       value =
           value_set t.vars (fill_from (t.depth - t.depth) t.depth zero_slot t.stack) (t.depth - t.depth) 16 (top_of t) (omega (arith, filled)) (omega arith)
-          ∙ sym (value-entry t (15 + t.depth) 0 (omega (arith, h.depth-exact)) (omega arith))
+          ∙ sym (value-entry t (15 + t.depth) 0 (omega (arith, h.depth_exact)) (omega arith))
 
       each : (s : ℕ) → s < 32 → s ≢ 16 → s ≢ 15 + t.depth → Dec (s < 16) → weights.Slot n cls (slot_of vars x s) (value_of t s) (slot_of vars y s) (after s)
       each s l a b (yes f) =
           same-slot n cls _ _ _ _
           (value-set-other t.vars (fill_from (t.depth - t.depth) t.depth zero_slot t.stack) (t.depth - t.depth) s (top_of t) (omega arith)
           ∙ value-fill t.vars t.stack (t.depth - t.depth) t.depth s (omega arith))
-          (slot-pushed-other vars v16 (rows.popped t.depth x) (x.stack 0) s (omega arith) ∙ slot-popped vars v16 x t.depth s (omega (arith, h.depth-exact)) (omega arith))
+          (slot-pushed-other vars v16 (rows.popped t.depth x) (x.stack 0) s (omega arith) ∙ slot-popped vars v16 x t.depth s (omega (arith, h.depth_exact)) (omega arith))
       each s l a b (no f) =
-          rw (slot-nostack vars v16 y s (omega (arith, h.depth-exact)))
+          rw (slot-nostack vars v16 y s (omega (arith, h.depth_exact)))
           (gone-slot n cls (slot_of vars x s) (value_of t s) _ (out s (omega arith) b (dec_lt s (16 + x.depth))))
 
       one : t.depth ≡ 1 → (s : ℕ) → s < 32 → Dec (s ≡ 16) → weights.Slot n cls (slot_of vars x s) (value_of t s) (slot_of vars y s) (after s)
@@ -164,10 +164,10 @@ module _ (vars : ℕ) (v16 : vars ≤ 16) (n : ℕ) (cls k : ℕ → ℕ) (x : R
       go : Dec (t.depth ≡ 1) → Balanced n cls (slot_of vars y) after k
       go (yes d) = keep_all n cls (slot_of vars x) (value_of t) k (slot_of vars y) after (λ s l. one d s l (ℕ_discrete s 16)) h.balanced
       go (no d) =
-          keep-move n cls (slot_of vars x) (value_of t) k (slot_of vars y) after 16 (15 + t.depth) (omega (arith, h.depth-exact)) (omega arith)
+          keep-move n cls (slot_of vars x) (value_of t) k (slot_of vars y) after 16 (15 + t.depth) (omega (arith, h.depth_exact)) (omega arith)
           (λ s l a b. each s l a b (dec_lt s 16)) value
-          (slot-nostack vars v16 y (15 + t.depth) (omega (arith, h.depth-exact)))
-          (out 16 (omega arith) (omega (arith, h.depth-exact)) (dec_lt 16 (16 + x.depth)))
+          (slot-nostack vars v16 y (15 + t.depth) (omega (arith, h.depth_exact)))
+          (out 16 (omega arith) (omega (arith, h.depth_exact)) (dec_lt 16 (16 + x.depth)))
           (rw (top, bottom) (same-weaker (x.stack 0)))
           h.balanced
 
@@ -178,7 +178,7 @@ module _ (vars : ℕ) (v16 : vars ≤ 16) (n : ℕ) (cls k : ℕ → ℕ) (x : R
   top-stands u e en g ed ee m =
       record {
         sized = record { vars = h.sized.vars; stack = length-set t.stack (t.depth - 1) u ∙ h.sized.stack };
-        depth-exact = omega (arith, h.depth-exact);
+        depth_exact = omega (arith, h.depth_exact);
         balanced = keep_all n cls (slot_of vars x) (value_of t) k (slot_of vars (rows.pushed e (rows.popped 1 x))) _ (λ s l. each s l (ℕ_discrete s (15 + t.depth)) (dec_lt s (15 + t.depth))) h.balanced;
       }
     where
@@ -186,18 +186,18 @@ module _ (vars : ℕ) (v16 : vars ≤ 16) (n : ℕ) (cls k : ℕ → ℕ) (x : R
           → weights.Slot n cls (slot_of vars x s) (value_of t s) (slot_of vars (rows.pushed e (rows.popped 1 x)) s) (value_in t.vars (set t.stack (t.depth - 1) u) s)
       each s l (yes q) d =
           rw (
-            slot-stack vars v16 x s 0 (omega (arith, h.depth-exact)) (omega (arith, h.depth-exact)),
-            slot_pushed vars v16 (rows.popped 1 x) e s (omega (arith, h.depth-exact)),
-            value_set t.vars t.stack (t.depth - 1) s u (omega (arith, h.sized.stack, h.depth-exact)) (omega (arith, h.depth-exact)),
-            value-entry t s 0 (omega (arith, h.depth-exact)) (omega arith),
+            slot-stack vars v16 x s 0 (omega (arith, h.depth_exact)) (omega (arith, h.depth_exact)),
+            slot_pushed vars v16 (rows.popped 1 x) e s (omega (arith, h.depth_exact)),
+            value_set t.vars t.stack (t.depth - 1) s u (omega (arith, h.sized.stack, h.depth_exact)) (omega (arith, h.depth_exact)),
+            value-entry t s 0 (omega (arith, h.depth_exact)) (omega arith),
           )
           (light-slot n cls (x.stack 0) e (top_of t).value u.value g ed (omega arith) m)
       each s l (no q) (yes d) =
-          same-slot n cls _ _ _ _ (value-set-other t.vars t.stack (t.depth - 1) s u (λ p. q (omega (arith, h.depth-exact))))
-          (slot-pushed-other vars v16 (rows.popped 1 x) e s (λ p. q (omega (arith, h.depth-exact))) ∙ slot-popped vars v16 x 1 s en (omega (arith, h.depth-exact)))
+          same-slot n cls _ _ _ _ (value-set-other t.vars t.stack (t.depth - 1) s u (λ p. q (omega (arith, h.depth_exact))))
+          (slot-pushed-other vars v16 (rows.popped 1 x) e s (λ p. q (omega (arith, h.depth_exact))) ∙ slot-popped vars v16 x 1 s en (omega (arith, h.depth_exact)))
       each s l (no q) (no d) =
-          same-slot n cls _ _ _ _ (value-set-other t.vars t.stack (t.depth - 1) s u (λ p. q (omega (arith, h.depth-exact))))
-          (slot-nostack vars v16 (rows.pushed e (rows.popped 1 x)) s (omega (arith, h.depth-exact)) ∙ sym (slot-nostack vars v16 x s (omega (arith, h.depth-exact))))
+          same-slot n cls _ _ _ _ (value-set-other t.vars t.stack (t.depth - 1) s u (λ p. q (omega (arith, h.depth_exact))))
+          (slot-nostack vars v16 (rows.pushed e (rows.popped 1 x)) s (omega (arith, h.depth_exact)) ∙ sym (slot-nostack vars v16 x s (omega (arith, h.depth_exact))))
 
   -- ---- monitorenter on what may be null, and isn't: the variable v, which may go, counts as the entry e, which weighs nothing
   pub as-stands : (v : ℕ) (e : Entry) → v < vars → no_end ≤ end_of (x.variable v) → dip_of e ≡ 0 → end_of e ≡ no_end
@@ -205,7 +205,7 @@ module _ (vars : ℕ) (v16 : vars ≤ 16) (n : ℕ) (cls k : ℕ → ℕ) (x : R
   as-stands v e lv g ed ee m =
       record {
         sized = h.sized;
-        depth-exact = h.depth-exact;
+        depth_exact = h.depth_exact;
         balanced = keep_all n cls (slot_of vars x) (value_of t) k (slot_of vars (rows.stored v e x)) (value_of t) (λ s l. each s (ℕ_discrete s v)) h.balanced;
       }
     where
@@ -225,20 +225,20 @@ module _ (vars : ℕ) (v16 : vars ≤ 16) (n : ℕ) (cls k : ℕ → ℕ) (x : R
           vars = length-set t.vars v (top_of t) ∙ h.sized.vars;
           stack = fill-length (t.depth - 1) zero_slot t.stack 1 ∙ h.sized.stack;
         };
-        depth-exact = ap (λ (d : ℕ). d - 1) h.depth-exact;
-        balanced = keep-move n cls (slot_of vars x) (value_of t) k (slot_of vars (rows.popped 1 (rows.stored v (x.stack 0) x))) _ v (15 + t.depth) (omega (arith, h.depth-exact)) (omega arith)
+        depth_exact = ap (λ (d : ℕ). d - 1) h.depth_exact;
+        balanced = keep-move n cls (slot_of vars x) (value_of t) k (slot_of vars (rows.popped 1 (rows.stored v (x.stack 0) x))) _ v (15 + t.depth) (omega (arith, h.depth_exact)) (omega arith)
             (λ s l a b. each s l a b (dec_lt s (15 + t.depth)))
             (value-fill (set t.vars v (top_of t)) t.stack (t.depth - 1) 1 v (omega arith)
             ∙ value-store t.vars t.stack v (top_of t) (omega arith) (omega (arith, h.sized.vars))
-            ∙ sym (value-entry t (15 + t.depth) 0 (omega (arith, h.depth-exact)) (omega arith)))
-            (slot-nostack vars v16 (rows.popped 1 (rows.stored v (x.stack 0) x)) (15 + t.depth) (omega (arith, h.depth-exact)))
+            ∙ sym (value-entry t (15 + t.depth) 0 (omega (arith, h.depth_exact)) (omega arith)))
+            (slot-nostack vars v16 (rows.popped 1 (rows.stored v (x.stack 0) x)) (15 + t.depth) (omega (arith, h.depth_exact)))
             (rw (slot-var vars v16 x v lv) g)
-            (rw (slot-stack vars v16 x (15 + t.depth) 0 (omega (arith, h.depth-exact)) (omega (arith, h.depth-exact)), low v (omega (arith, h.depth-exact)), slot-stored vars v16 x v (x.stack 0) lv) (same-weaker (x.stack 0)))
+            (rw (slot-stack vars v16 x (15 + t.depth) 0 (omega (arith, h.depth_exact)) (omega (arith, h.depth_exact)), low v (omega (arith, h.depth_exact)), slot-stored vars v16 x v (x.stack 0) lv) (same-weaker (x.stack 0)))
             h.balanced;
       }
     where
       low : (s : ℕ) → s < 15 + t.depth → slot_of vars (rows.popped 1 (rows.stored v (x.stack 0) x)) s ≡ slot_of vars (rows.stored v (x.stack 0) x) s
-      low s l = slot-popped vars v16 (rows.stored v (x.stack 0) x) 1 s en (omega (arith, h.depth-exact))
+      low s l = slot-popped vars v16 (rows.stored v (x.stack 0) x) 1 s en (omega (arith, h.depth_exact))
 
       each : (s : ℕ) → s < 32 → s ≢ v → s ≢ 15 + t.depth → Dec (s < 15 + t.depth)
           → weights.Slot n cls (slot_of vars x s) (value_of t s) (slot_of vars (rows.popped 1 (rows.stored v (x.stack 0) x)) s) (value_in (set t.vars v (top_of t)) (fill_from (t.depth - 1) 1 zero_slot t.stack) s)
@@ -246,7 +246,7 @@ module _ (vars : ℕ) (v16 : vars ≤ 16) (n : ℕ) (cls k : ℕ → ℕ) (x : R
           same-slot n cls _ _ _ _ (value-fill (set t.vars v (top_of t)) t.stack (t.depth - 1) 1 s (omega arith) ∙ value-store-other t.vars t.stack v s (top_of t) a)
           (low s e ∙ slot-stored-other vars v16 x v (x.stack 0) s a)
       each s l a b (no e) =
-          rw (slot-nostack vars v16 x s (omega (arith, h.depth-exact)), slot-nostack vars v16 (rows.popped 1 (rows.stored v (x.stack 0) x)) s (omega (arith, h.depth-exact)))
+          rw (slot-nostack vars v16 x s (omega (arith, h.depth_exact)), slot-nostack vars v16 (rows.popped 1 (rows.stored v (x.stack 0) x)) s (omega (arith, h.depth_exact)))
           (gone-slot n cls Blank (value_of t s) _ (omega arith))
 
   -- ---- load of a reference: what the variable v offers is split over y and the new top z
@@ -256,12 +256,12 @@ module _ (vars : ℕ) (v16 : vars ≤ 16) (n : ℕ) (cls k : ℕ → ℕ) (x : R
       rw (pushed-is t (var_of t v) below)
       (record {
         sized = record { vars = h.sized.vars; stack = length-set t.stack t.depth (var_of t v) ∙ h.sized.stack };
-        depth-exact = ap (λ (d : ℕ). d + 1) h.depth-exact;
+        depth_exact = ap (λ (d : ℕ). d + 1) h.depth_exact;
         balanced = keep-split n cls (slot_of vars x) (value_of t) k (slot_of vars (rows.pushed z (rows.stored v y x))) _ v (16 + t.depth) (omega arith) (omega arith)
             each
             (value-set-other t.vars t.stack t.depth v (var_of t v) (omega arith))
             (value_set t.vars t.stack t.depth (16 + t.depth) (var_of t v) (omega (arith, h.sized.stack)) refl ∙ sym (value-var t v (omega arith)))
-            (slot-nostack vars v16 x (16 + t.depth) (omega (arith, h.depth-exact)))
+            (slot-nostack vars v16 x (16 + t.depth) (omega (arith, h.depth_exact)))
             (rw (sx, sy) (takes-kind n cls y (x.variable v) (value_of t v) (and-fst (takes y (x.variable v)) (takes z (x.variable v)) m.kind)))
             (rw (sx, sz) (takes-kind n cls z (x.variable v) (value_of t v) (and-snd (takes y (x.variable v)) (takes z (x.variable v)) m.kind)))
             (rw (sx, sy, sz) m.dip)
@@ -276,13 +276,13 @@ module _ (vars : ℕ) (v16 : vars ≤ 16) (n : ℕ) (cls k : ℕ → ℕ) (x : R
       sy = slot-pushed-other vars v16 (rows.stored v y x) z v (omega arith) ∙ slot-stored vars v16 x v y lv
 
       sz : slot_of vars (rows.pushed z (rows.stored v y x)) (16 + t.depth) ≡ z
-      sz = slot_pushed vars v16 (rows.stored v y x) z (16 + t.depth) (omega (arith, h.depth-exact))
+      sz = slot_pushed vars v16 (rows.stored v y x) z (16 + t.depth) (omega (arith, h.depth_exact))
 
       each : (s : ℕ) → s < 32 → s ≢ v → s ≢ 16 + t.depth
           → weights.Slot n cls (slot_of vars x s) (value_of t s) (slot_of vars (rows.pushed z (rows.stored v y x)) s) (value_in t.vars (set t.stack t.depth (var_of t v)) s)
       each s l a b =
           same-slot n cls _ _ _ _ (value-set-other t.vars t.stack t.depth s (var_of t v) b)
-          (slot-pushed-other vars v16 (rows.stored v y x) z s (λ p. b (omega (arith, h.depth-exact))) ∙ slot-stored-other vars v16 x v y s a)
+          (slot-pushed-other vars v16 (rows.stored v y x) z s (λ p. b (omega (arith, h.depth_exact))) ∙ slot-stored-other vars v16 x v y s a)
 
   -- ---- the variable v is a reference
   module _ (v : ℕ) (lv : v < vars) (ref : is_reference (x.variable v) ≡ true) where
@@ -325,7 +325,7 @@ module _ (vars : ℕ) (v16 : vars ≤ 16) (n : ℕ) (cls k : ℕ → ℕ) (x : R
       same o f = eqb-true (object_of (var_of t v)) o (sym (value.2 o) ∙ f)
 
       moved : Balanced n cls (slot_of vars (rows.stored v y x)) (value_of t) m → Stands vars n cls m (rows.stored v y x) t
-      moved b = record { sized = h.sized; depth-exact = h.depth-exact; balanced = b }
+      moved b = record { sized = h.sized; depth_exact = h.depth_exact; balanced = b }
 
       pub enter-stands : m (object_of (var_of t v)) ≡ k (object_of (var_of t v)) + 1 → Meets (x.variable v) (want_entered y) → Stands vars n cls m (rows.stored v y x) t
       enter-stands up w =

@@ -91,11 +91,11 @@ module _ (P : Typed) (A : Accepted P) (s : State) (inv : Inv P s) (i : ℕ) (li 
   descriptor = (P.program.method c).descriptor
 
   n16 : args ≤ 16
-  n16 = omega (arith, A.formed.args-vars c lc, A.formed.vars-16 c lc)
+  n16 = omega (arith, A.formed.args_vars c lc, A.formed.vars_16 c lc)
 
   module _ (ag : arguments_go args descriptor here ≡ true) (og : object_goes c here args ≡ true) (en : args + 1 ≤ here.depth) (f : Fits vars (edge (rows.popped (args + 1) here) (wants next))) where
     enough : args + 1 ≤ T.depth
-    enough = omega (arith, st.depth-exact)
+    enough = omega (arith, st.depth_exact)
 
     argument-goes : (j : ℕ) → j < args → (matches (descriptor j) (here.stack j) && may_go (here.stack j)) ≡ true
     unfolding arguments_go argument_goes
@@ -161,6 +161,6 @@ module _ (P : Typed) (A : Accepted P) (s : State) (inv : Inv P s) (i : ℕ) (li 
       let ag : arguments_go args descriptor here ≡ true = search (and-fst, and-snd) in
       let og : object_goes c here args ≡ true = search (and-fst, and-snd) in
       record {
-        no-fault = went_on_lem _ _ (le-leb (args + 1) T.depth (enough ag og en r.1.0)) ∙ went_on_lem _ _ (arguments-ok ag og en r.1.0);
+        no_fault = went_on_lem _ _ (le-leb (args + 1) T.depth (enough ag og en r.1.0)) ∙ went_on_lem _ _ (arguments-ok ag og en r.1.0);
         good = λ w. let l : lowest_free s < 8 = ltb-true (lowest_free s) 8 (tested _ _ _ w).0 in starts ag og en r.1.0 ad (lowest_free s) l (free-is l);
       }

@@ -29,7 +29,7 @@ use Rattle.soundness.specs.Invariant.{Inv}
 use Rattle.soundness.proofs.Accepted.{Accepted}
 use Rattle.soundness.proofs.Moves.{Good, given, Fine}
 use Rattle.soundness.proofs.Stack.{inc-fine, pop-fine, push0-fine, load-fine, store-fine, if-fine}
-use Rattle.soundness.proofs.Locks.{enter-fine, exit-fine, leaves-held}
+use Rattle.soundness.proofs.Locks.{enter-fine, exit-fine, leaves_held}
 use Rattle.soundness.proofs.Ends.{athrow-fine, return-fine}
 use Rattle.soundness.proofs.Makes.{new-fine}
 use Rattle.soundness.proofs.Starts.{start_fine}
@@ -55,7 +55,7 @@ module _ (P : Typed) (A : Accepted P) (s : State) (inv : Inv P s) (i : ℕ) (li 
   here = ((inv.thread i li).live lv).address
 
   next : L < code → Address P.program C (L + 1)
-  next h = record { class-known = here.class-known; first = omega arith; last = omega arith }
+  next h = record { class_known = here.class_known; first = omega arith; last = omega arith }
 
   exec-fine : (fails : Bool) (x : Instruction) → InstructionFits P.program.classes (λ d. (P.program.method d).fields) vars code L x → rule_holds vars (rule_of P.program vars (P.row C) L x) ≡ true
       → Fine P s i (fault_of P.program s i T (P.program.method C) fails x) (wait_of s i T x) (move_of P.program s i T (P.program.method C) fails x)
@@ -65,7 +65,7 @@ module _ (P : Typed) (A : Accepted P) (s : State) (inv : Inv P s) (i : ℕ) (li 
   exec-fine fails (Load v) h r = load-fine P A s inv i li lv v h.0 (next h.1) r
   exec-fine fails (Store v) h r = store-fine P A s inv i li lv v h.0 (next h.1) r
   exec-fine fails (If a) h r =
-      if-fine P A s inv i li lv a (next h.1) (record { class-known = here.class-known; first = h.0.0; last = h.0.1 }) r
+      if-fine P A s inv i li lv a (next h.1) (record { class_known = here.class_known; first = h.0.0; last = h.0.1 }) r
   exec-fine fails (Enter v a) h r = enter-fine P A s inv i li lv v h.0 a h.1 (next h.2) r
   exec-fine fails (Exit v) h r = exit-fine P A s inv i li lv v h.0 (next h.1) r
   exec-fine fails (New c a) h r = new-fine P A s inv i li lv c a fails h.0 h.1 (next h.2) r
@@ -77,7 +77,7 @@ module _ (P : Typed) (A : Accepted P) (s : State) (inv : Inv P s) (i : ℕ) (li 
   exec-fine fails Nothing h r = absurd h
 
   table_here : InstructionFits P.program.classes (λ d. (P.program.method d).fields) vars code L ((P.program.method C).instruction L)
-  table_here = A.formed.table C L here.class-known here.first here.last
+  table_here = A.formed.table C L here.class_known here.first here.last
 
   abbrev X : Instruction
   X = (P.program.method C).instruction L
@@ -86,8 +86,8 @@ module _ (P : Typed) (A : Accepted P) (s : State) (inv : Inv P s) (i : ℕ) (li 
   fine fails = exec-fine fails X table_here (A.rule C L here)
 
   -- THEOREM: an instruction of a live thread draws no fault
-  pub no-fault : (fails : Bool) → fault_of P.program s i T (P.program.method C) fails X ≡ 0
-  no-fault fails = (fine fails).no-fault
+  pub no_fault : (fails : Bool) → fault_of P.program s i T (P.program.method C) fails X ≡ 0
+  no_fault fails = (fine fails).no_fault
 
   -- THEOREM: where it doesn't wait, its move is a good step
   pub move-good : (fails : Bool) → wait_of s i T X ≡ 0 → Good P s i (move_of P.program s i T (P.program.method C) fails X)
@@ -124,11 +124,11 @@ module _ (P : Typed) (A : Accepted P) (s : State) (inv : Inv P s) (i : ℕ) (li 
   -- THEOREM: every step of a live thread is good
   pub run-good : (fails : Bool) → Good P s i (run_of P.program s i T fails)
   unfolding run_of
-  run-good fails = draws (Good P s i) s _ _ (λ n. absurd (n (no-fault fails))) (λ _. draws (Good P s i) s _ _ (waits X) (move-good fails))
+  run-good fails = draws (Good P s i) s _ _ (λ n. absurd (n (no_fault fails))) (λ _. draws (Good P s i) s _ _ (waits X) (move-good fails))
 
   -- at monitorexit, the thread holds the object
   pub exit-held : (v : Var) → (P.program.method C).instruction L ≡ Exit v → 0 < count_of s.counts i (object_of (var_of T v.0))
   exit-held v q =
       let h : InstructionFits P.program.classes (λ d. (P.program.method d).fields) vars code L (Exit v) = rw q at table_here in
       let r : rule_holds vars (rule_of P.program vars (P.row C) L (Exit v)) ≡ true = rw q at (A.rule C L here) in
-      leaves-held P A s inv i li lv v h.0 r
+      leaves_held P A s inv i li lv v h.0 r

@@ -74,17 +74,17 @@ module _ (vars limit : ℕ) (x : Row) (h : row_formed vars limit x ≡ true) whe
   formed-stack j l = rw (lt-ltb j x.depth l) at (all-elim (entry_formed x) limit (search (and-fst, and-snd)) j (omega (arith, formed-depth)))
 
 module _ (vars args : ℕ) (descriptor : ℕ → ℕ) (x : Row) (h : first_row vars args descriptor x ≡ true) where
-  first-depth : x.depth ≡ 0
+  first_depth : x.depth ≡ 0
   unfolding first_row
-  first-depth = eqb-true _ _ (search and-fst)
+  first_depth = eqb-true _ _ (search and-fst)
 
-  first-argument : (i : ℕ) → i < args → i < vars → entry_fits (argument_entry (descriptor i)) (x.variable i) ≡ true
+  first_argument : (i : ℕ) → i < args → i < vars → entry_fits (argument_entry (descriptor i)) (x.variable i) ≡ true
   unfolding first_row first_vars first_var
-  first-argument i a l = rw (lt-ltb i args a) at (all-elim (first_var args descriptor x) vars (search (and-fst, and-snd)) i l)
+  first_argument i a l = rw (lt-ltb i args a) at (all-elim (first_var args descriptor x) vars (search (and-fst, and-snd)) i l)
 
-  first-other : (i : ℕ) → args ≤ i → i < vars → x.variable i ≡ Top
+  first_other : (i : ℕ) → args ≤ i → i < vars → x.variable i ≡ Top
   unfolding first_row first_vars first_var
-  first-other i a l = is-top (x.variable i) (rw (le-ltb i args a) at (all-elim (first_var args descriptor x) vars (search (and-fst, and-snd)) i l))
+  first_other i a l = is-top (x.variable i) (rw (le-ltb i args a) at (all-elim (first_var args descriptor x) vars (search (and-fst, and-snd)) i l))
 
 -- THEOREM: a bundle with verdict 0 is accepted
 pub accepted : (b : List ℕ) → (verdict_of b).number ≡ 0 → Accepted (typed_of b)
@@ -93,13 +93,13 @@ accepted b e =
     let w : WellFormed (program_of b) = well-formed b (agrees_back b e) in
     record {
       formed = w;
-      depth-limit = λ c l a. formed-depth _ _ ((typed_of b).row c l) (verdict-zero b e (form c l) a);
-      variable-type = λ c l i a. formed-variable _ _ ((typed_of b).row c l) (verdict-zero b e (form c l) a) i;
-      stack-type = λ c l j a. formed-stack _ _ ((typed_of b).row c l) (verdict-zero b e (form c l) a) j;
-      variable-end = λ c l i. read-end _ _ _;
-      stack-end = λ c l j. either (ltb j (class_at b c).limit) _ Blank (read-end _ _ _) (omega arith);
-      first-depth = λ c l. first-depth _ _ _ ((typed_of b).row c 1) (verdict-zero b e (first c) l);
-      first-argument = λ c i l a. first-argument _ _ _ ((typed_of b).row c 1) (verdict-zero b e (first c) l) i a (omega (arith, w.args-vars c l));
-      first-other = λ c i l a. first-other _ _ _ ((typed_of b).row c 1) (verdict-zero b e (first c) l) i a;
+      depth_limit = λ c l a. formed-depth _ _ ((typed_of b).row c l) (verdict-zero b e (form c l) a);
+      variable_type = λ c l i a. formed-variable _ _ ((typed_of b).row c l) (verdict-zero b e (form c l) a) i;
+      stack_type = λ c l j a. formed-stack _ _ ((typed_of b).row c l) (verdict-zero b e (form c l) a) j;
+      variable_end = λ c l i. read-end _ _ _;
+      stack_end = λ c l j. either (ltb j (class_at b c).limit) _ Blank (read-end _ _ _) (omega arith);
+      first_depth = λ c l. first_depth _ _ _ ((typed_of b).row c 1) (verdict-zero b e (first c) l);
+      first_argument = λ c i l a. first_argument _ _ _ ((typed_of b).row c 1) (verdict-zero b e (first c) l) i a (omega (arith, w.args_vars c l));
+      first_other = λ c i l a. first_other _ _ _ ((typed_of b).row c 1) (verdict-zero b e (first c) l) i a;
       rule = λ c l a. verdict-zero b e (rule c l) a;
     }

@@ -28,16 +28,16 @@ cond-low false a x h = le_refl x
 
 -- ---- f asks no more than e does
 pub record Weaker (e f : Entry) : Type 0 where
-  pub dip-less : dip_of f ≤ dip_of e
-  pub end-less : end_of f ≤ end_of e
+  pub dip_less : dip_of f ≤ dip_of e
+  pub end_less : end_of f ≤ end_of e
   pub kind : (n : ℕ) (cls : ℕ → ℕ) (v : Value) → Matches n cls e v → Matches n cls f v
 
 pub same-weaker : (e : Entry) → Weaker e e
-same-weaker e = record { dip-less = le_refl _; end-less = le_refl _; kind = λ n cls v m. m }
+same-weaker e = record { dip_less = le_refl _; end_less = le_refl _; kind = λ n cls v m. m }
 
 -- THE FITTING LAW, of entries
 pub meets-weaker : (e f : Entry) → Meets e (want f) → Weaker e f
-meets-weaker e f h = record { dip-less = h.dip; end-less = h.end; kind = λ n cls v m. takes-kind n cls f e v h.kind m }
+meets-weaker e f h = record { dip_less = h.dip; end_less = h.end; kind = λ n cls v m. takes-kind n cls f e v h.kind m }
 
 pub goes_end : (e : Entry) → may_go e ≡ true → no_end ≤ end_of e
 goes_end e h = leb-true no_end (end_of e) (and-snd (is_type e) _ h)
@@ -90,8 +90,8 @@ module _ (n : ℕ) (cls : ℕ → ℕ) where
       rw q
       (record {
         kind = h.kind n cls v;
-        dips = λ o. cond-le (names o v) (dip_of f) (dip_of e) 0 h.dip-less;
-        ends = λ o. cond-le (names o v) (end_of f) (end_of e) no_end h.end-less;
+        dips = λ o. cond-le (names o v) (dip_of f) (dip_of e) 0 h.dip_less;
+        ends = λ o. cond-le (names o v) (end_of f) (end_of e) no_end h.end_less;
       })
 
   -- a place that falls out of use
@@ -108,10 +108,10 @@ module _ (n : ℕ) (cls : ℕ → ℕ) where
   fresh-slot v e f w d g m h =
       record {
         kind = λ _. h.kind n cls w m;
-        dips = λ o. omega (arith, cond-low (names o w) (dip_of f) 0 (omega (arith, h.dip-less)));
+        dips = λ o. omega (arith, cond-low (names o w) (dip_of f) 0 (omega (arith, h.dip_less)));
         ends = λ o. omega (
           arith,
-          cond-low (names o w) (end_of f) no_end (omega (arith, h.end-less)),
+          cond-low (names o w) (end_of f) no_end (omega (arith, h.end_less)),
           cond_top (names o v) no_end no_end (omega arith),
         );
       }

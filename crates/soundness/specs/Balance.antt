@@ -74,5 +74,5 @@ pub record Sixteen (t : Thread) : Type 0 where
 -- there are n objects, of the classes cls; the thread's counts are k
 pub record Stands (vars n : ℕ) (cls k : ℕ → ℕ) (x : Row) (t : Thread) : Type 0 where
   pub sized : Sixteen t
-  pub depth-exact : t.depth ≡ x.depth
+  pub depth_exact : t.depth ≡ x.depth
   pub balanced : Balanced n cls (slot_of vars x) (value_of t) k

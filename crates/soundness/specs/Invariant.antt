@@ -30,21 +30,21 @@ pub record Standing (P : Typed) (n : ℕ) (cls k : ℕ → ℕ) (t : Thread) : T
 
 -- what does not go by thread
 pub record Whole (P : Typed) (s : State) : Type 0 where
-  pub threads-8 : length s.threads ≡ 8
-  pub counts-256 : length s.counts ≡ 256
-  pub classes-32 : length s.classes ≡ 32
-  pub fields-128 : length s.fields ≡ 128
-  pub held-8 : length s.held ≡ 8
-  pub objects-32 : s.objects ≤ 32
+  pub threads_8 : length s.threads ≡ 8
+  pub counts_256 : length s.counts ≡ 256
+  pub classes_32 : length s.classes ≡ 32
+  pub fields_128 : length s.fields ≡ 128
+  pub held_8 : length s.held ≡ 8
+  pub objects_32 : s.objects ≤ 32
   -- object 0 is there, of the exception class: what a failed new and null throw
-  pub some-object : 1 ≤ s.objects
-  pub first-class : class_of s 0 ≡ P.program.exception
-  pub object-class : (o : ℕ) → o < s.objects → class_of s o < P.program.classes
-  pub one-holder : (i j o : ℕ) → i < 8 → j < 8 → o < 32 → i ≢ j → 0 < count_of s.counts i o → count_of s.counts j o ≡ 0
+  pub some_object : 1 ≤ s.objects
+  pub first_class : class_of s 0 ≡ P.program.exception
+  pub object_class : (o : ℕ) → o < s.objects → class_of s o < P.program.classes
+  pub one_holder : (i j o : ℕ) → i < 8 → j < 8 → o < 32 → i ≢ j → 0 < count_of s.counts i o → count_of s.counts j o ≡ 0
   -- each thread's word agrees with its counts
   pub worded : Worded s
   -- every field in use holds what its descriptor allows; it weighs nothing
-  pub field-holds : (o f : ℕ) → o < s.objects → f < (P.program.method (class_of s o)).fields
+  pub field_holds : (o f : ℕ) → o < s.objects → f < (P.program.method (class_of s o)).fields
       → Matches s.objects (class_of s) (field_entry ((P.program.method (class_of s o)).field f)) (field_of s.fields o f).value
 
 abbrev pub StandingAt : Typed → State → ℕ → Type 0

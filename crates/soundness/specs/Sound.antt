@@ -22,21 +22,21 @@ next b s t = ((program_of b).method (thread_at s t).class).instruction (thread_a
 -- one clause of the demand a field: of a state s that is reached
 pub record Safe (b : List ℕ) (s : State) : Type 0 where
   -- no thread leaves a lock it does not hold
-  pub leaves-held : (t : ℕ) (v : Var) → t < 8 → (thread_at s t).live ≡ true → next b s t ≡ Exit v
+  pub leaves_held : (t : ℕ) (v : Var) → t < 8 → (thread_at s t).live ≡ true → next b s t ≡ Exit v
       → 0 < held_by s t (object_of (var_of (thread_at s t) v.0))
   -- a thread that isn't live holds nothing
-  pub idle-free : (t o : ℕ) → t < 8 → o < 32 → (thread_at s t).live ≡ false → held_by s t o ≡ 0
+  pub idle_free : (t o : ℕ) → t < 8 → o < 32 → (thread_at s t).live ≡ false → held_by s t o ≡ 0
   -- no object is held by two threads
-  pub one-holder : (t u o : ℕ) → t < 8 → u < 8 → o < 32 → t ≢ u → 0 < held_by s t o → held_by s u o ≡ 0
+  pub one_holder : (t u o : ℕ) → t < 8 → u < 8 → o < 32 → t ≢ u → 0 < held_by s t o → held_by s u o ≡ 0
   -- no count passes 2,016
   pub bounded : (t o : ℕ) → t < 8 → o < 32 → held_by s t o ≤ 2016
 
 -- .. and of a step of thread t from there, which answered n and gave the state u
 pub record Sound (s : State) (t n : ℕ) (u : State) : Type 0 where
   -- no step is a fault, nor 17 or 18
-  pub no-fault : n ≤ 5
+  pub no_fault : n ≤ 5
   -- a thread that ends, by return or uncaught exception, held nothing and holds nothing then
-  pub ends-free : (n ≡ 1) ⊎ (n ≡ 2) → (o : ℕ) → o < 32 → (held_by s t o ≡ 0) × (held_by u t o ≡ 0)
+  pub ends_free : (n ≡ 1) ⊎ (n ≡ 2) → (o : ℕ) → o < 32 → (held_by s t o ≡ 0) × (held_by u t o ≡ 0)
 
 -- DEMAND 3: for an accepted bundle, a fresh machine and any list of steps, the state that is reached is safe, and one more step is sound
 abbrev pub Demand3 : Type 0

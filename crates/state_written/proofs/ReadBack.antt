@@ -170,7 +170,7 @@ module _ (g : List ℕ) where
         rw (
           (live_back t.live p (read p H head 0 p (omega arith) (omega arith))).0,
           read p H head 1 (p + 1) refl (omega arith),
-          halves-back t.at.0 (p + 2) f.address-16 (back p (p + 2) (cond t.live 1 0 ∷ t.class ∷ []) (halves t.at.0) refl (front p (cond t.live 1 0 ∷ t.class ∷ t.at.0 / 256 % 256 ∷ t.at.0 % 256 ∷ []) (t.depth ∷ []) head)),
+          halves-back t.at.0 (p + 2) f.address_16 (back p (p + 2) (cond t.live 1 0 ∷ t.class ∷ []) (halves t.at.0) refl (front p (cond t.live 1 0 ∷ t.class ∷ t.at.0 / 256 % 256 ∷ t.at.0 % 256 ∷ []) (t.depth ∷ []) head)),
           read p H head 4 (p + 4) refl (omega arith),
           places-back 16 (p + 5) t.vars vars-at f.vars,
           places-back 16 (p + 85) t.stack stack_at f.stack,
@@ -256,7 +256,7 @@ module _ (s : State) (f : StateFits s) where
   unfolding state_of
   state-back =
       rw (
-        all_back 8 (threads_at G) idle s.threads f.threads-8 (λ i l. thread-back G (get_or s.threads i idle) (i * 165) (f.threads i l) (thread-at i l)),
+        all_back 8 (threads_at G) idle s.threads f.threads_8 (λ i l. thread-back G (get_or s.threads i idle) (i * 165) (f.threads i l) (thread-at i l)),
         all_back 256 (count_at G) 0 s.counts f.counts.long count-back,
         read G 1832 O object-at 0 1832 refl (omega arith),
         all_back 32 (class_at G) 0 s.classes f.classes.long class_back,

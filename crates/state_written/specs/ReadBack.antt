@@ -30,18 +30,18 @@ pub record NumbersFit (n m : ℕ) (l : List ℕ) : Type 0 where
 
 -- .. of a thread
 pub record ThreadFits (t : Thread) : Type 0 where
-  pub class-8 : t.class < 256
-  pub address-16 : t.at.0 < 65536
-  pub depth-8 : t.depth < 256
+  pub class_8 : t.class < 256
+  pub address_16 : t.at.0 < 65536
+  pub depth_8 : t.depth < 256
   pub vars : PlacesFit 16 t.vars
   pub stack : PlacesFit 16 t.stack
 
 -- .. and of a state
 pub record StateFits (s : State) : Type 0 where
-  pub threads-8 : length s.threads ≡ 8
+  pub threads_8 : length s.threads ≡ 8
   pub threads : (i : ℕ) → i < 8 → ThreadFits (get_or s.threads i idle)
   pub counts : NumbersFit 256 65536 s.counts
-  pub objects-8 : s.objects < 256
+  pub objects_8 : s.objects < 256
   pub classes : NumbersFit 32 256 s.classes
   pub fields : PlacesFit 128 s.fields
   pub held : NumbersFit 8 4294967296 s.held

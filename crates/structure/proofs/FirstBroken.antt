@@ -36,7 +36,7 @@ module _ (b : List ℕ) where
   listed (extent c) w = in_left _ (layout_places b) _ (inr (inr (inr (each_in _ _ shape_places c w (inr (inl refl))))))
   listed (descriptors c) w = in_left _ (layout_places b) _ (inr (inr (inr (each_in _ _ shape_places c w (inr (inr (inl refl)))))))
   listed (instruction c l) w =
-      in_right _ (layout_places b) _ (each_in _ _ (table_places b) c w.class-known
+      in_right _ (layout_places b) _ (each_in _ _ (table_places b) c w.class_known
       (numbered-in _ _ (λ i. instruction c (i + 1)) (l - 1) (omega (arith, w.first, w.last)) (ap (instruction c) (omega (arith, w.first)))))
 
   shape-within : (p : Place) (c : ℕ) → c < classes b → In p (shape_places c) → Within b p
@@ -50,7 +50,7 @@ module _ (b : List ℕ) where
   unfolding program_of method_at method_of
   table-within p c l h =
       let i = in-numbered p (class_at b c).code (λ i. instruction c (i + 1)) h in
-      rw i.2 (record { class-known = l; first = omega arith; last = omega (arith, i.1) })
+      rw i.2 (record { class_known = l; first = omega arith; last = omega (arith, i.1) })
 
   within : (p : Place) → In p (structure_places b) → Within b p
   unfolding In

@@ -22,38 +22,38 @@ use Rattle.structure.proofs.FirstBroken.{structure-zero}
 
 -- a class's directory numbers within their limits
 pub record Limited (c : ℕ) (k : Class) : Type 0 where
-  pub args-vars : k.args ≤ k.vars
-  pub vars-16 : k.vars ≤ 16
-  pub limit-16 : k.limit ≤ 16
-  pub fields-4 : k.fields ≤ 4
-  pub main-args : c ≡ 0 → k.args ≡ 0
-  pub some-code : 1 ≤ k.code
-  pub code-256 : k.code ≤ 256
+  pub args_vars : k.args ≤ k.vars
+  pub vars_16 : k.vars ≤ 16
+  pub limit_16 : k.limit ≤ 16
+  pub fields_4 : k.fields ≤ 4
+  pub main_args : c ≡ 0 → k.args ≡ 0
+  pub some_code : 1 ≤ k.code
+  pub code_256 : k.code ≤ 256
 
 pub limited : (c : ℕ) (k : Class) → limits_ok c k ≡ true → Limited c k
 unfolding limits_ok main_ok code_ok
 limited c k e =
     record {
-      args-vars = leb-true _ _ (search (and-fst, and-snd));
-      vars-16 = leb-true _ _ (search (and-fst, and-snd));
-      limit-16 = leb-true _ _ (search (and-fst, and-snd));
-      fields-4 = leb-true _ _ (search (and-fst, and-snd));
-      main-args = λ q. let m : (not (eqb c 0) || eqb k.args 0) ≡ true = search (and-fst, and-snd) in eqb-true _ _ (or_right (not (eqb c 0)) _ m (rw q));
-      some-code = leb-true _ _ (search (and-fst, and-snd));
-      code-256 = leb-true _ _ (search (and-fst, and-snd));
+      args_vars = leb-true _ _ (search (and-fst, and-snd));
+      vars_16 = leb-true _ _ (search (and-fst, and-snd));
+      limit_16 = leb-true _ _ (search (and-fst, and-snd));
+      fields_4 = leb-true _ _ (search (and-fst, and-snd));
+      main_args = λ q. let m : (not (eqb c 0) || eqb k.args 0) ≡ true = search (and-fst, and-snd) in eqb-true _ _ (or_right (not (eqb c 0)) _ m (rw q));
+      some_code = leb-true _ _ (search (and-fst, and-snd));
+      code_256 = leb-true _ _ (search (and-fst, and-snd));
     }
 
 pub record WellFormed (P : Program) : Type 0 where
-  pub some-class : 1 ≤ P.classes
-  pub few-classes : P.classes ≤ 8
+  pub some_class : 1 ≤ P.classes
+  pub few_classes : P.classes ≤ 8
   pub exception : P.exception < P.classes
-  pub main-args : (P.method 0).args ≡ 0
-  pub args-vars : (c : ℕ) → c < P.classes → (P.method c).args ≤ (P.method c).vars
-  pub vars-16 : (c : ℕ) → c < P.classes → (P.method c).vars ≤ 16
-  pub limit-16 : (c : ℕ) → c < P.classes → (P.method c).limit ≤ 16
-  pub fields-4 : (c : ℕ) → c < P.classes → (P.method c).fields ≤ 4
-  pub some-code : (c : ℕ) → c < P.classes → 1 ≤ (P.method c).code
-  pub code-256 : (c : ℕ) → c < P.classes → (P.method c).code ≤ 256
+  pub main_args : (P.method 0).args ≡ 0
+  pub args_vars : (c : ℕ) → c < P.classes → (P.method c).args ≤ (P.method c).vars
+  pub vars_16 : (c : ℕ) → c < P.classes → (P.method c).vars ≤ 16
+  pub limit_16 : (c : ℕ) → c < P.classes → (P.method c).limit ≤ 16
+  pub fields_4 : (c : ℕ) → c < P.classes → (P.method c).fields ≤ 4
+  pub some_code : (c : ℕ) → c < P.classes → 1 ≤ (P.method c).code
+  pub code_256 : (c : ℕ) → c < P.classes → (P.method c).code ≤ 256
   pub descriptor : (c i : ℕ) → c < P.classes → i < (P.method c).args
       → ((P.method c).descriptor i ≡ 255) ⊎ ((P.method c).descriptor i < P.classes)
   pub field : (c f : ℕ) → c < P.classes → f < (P.method c).fields
@@ -96,19 +96,19 @@ module _ (b : List ℕ) (e : (structure_of b).number ≡ 0) where
   unfolding program_of method_at method_of instruction_at field_at descriptors_ok address_ok
   well-formed =
       record {
-        some-class = some-classes.0;
-        few-classes = some-classes.1;
+        some_class = some-classes.0;
+        few_classes = some-classes.1;
         exception = exception-class;
-        main-args = (class-limits 0 some-classes.0).main-args refl;
-        args-vars = λ c l. (class-limits c l).args-vars;
-        vars-16 = λ c l. (class-limits c l).vars-16;
-        limit-16 = λ c l. (class-limits c l).limit-16;
-        fields-4 = λ c l. (class-limits c l).fields-4;
-        some-code = λ c l. (class-limits c l).some-code;
-        code-256 = λ c l. (class-limits c l).code-256;
+        main_args = (class-limits 0 some-classes.0).main_args refl;
+        args_vars = λ c l. (class-limits c l).args_vars;
+        vars_16 = λ c l. (class-limits c l).vars_16;
+        limit_16 = λ c l. (class-limits c l).limit_16;
+        fields_4 = λ c l. (class-limits c l).fields_4;
+        some_code = λ c l. (class-limits c l).some_code;
+        code_256 = λ c l. (class-limits c l).code_256;
         descriptor = λ c i l h. descriptor-is (classes b) _ i (all-elim _ ((class_at b c).args + (class_at b c).fields) (structure-zero b e (descriptors c) l) i (omega arith));
         field = λ c f l h. descriptor-is (classes b) _ ((class_at b c).args + f) (all-elim _ ((class_at b c).args + (class_at b c).fields) (structure-zero b e (descriptors c) l) ((class_at b c).args + f) (omega arith));
         table = λ c l h a z.
             let k = class_at b c in
-            admitted (classes b) (fields_of b) k.vars k.code l (code_at k (part_of b k) l) z (structure-zero b e (instruction c l) (record { class-known = h; first = a; last = z }));
+            admitted (classes b) (fields_of b) k.vars k.code l (code_at k (part_of b k) l) z (structure-zero b e (instruction c l) (record { class_known = h; first = a; last = z }));
       }

@@ -104,10 +104,10 @@ unfolding taken_of
 low-taken d s l p = rw p (go (read_text d s) refl)
   where
     go : (x : Read) → read_text d s ≡ x → Low 256 (weight_taken (taken_of x))
-    go unread e = record { dip-low = omega arith; rise-low = omega arith }
+    go unread e = record { dip_low = omega arith; rise_low = omega arith }
     go (read u r) e =
         let m = choice-room d s u r e in
-        record { dip-low = omega (arith, m.dip-room); rise-low = omega (arith, m.rise-room) }
+        record { dip_low = omega (arith, m.dip_room); rise_low = omega (arith, m.rise_room) }
 
 module _ (s : List ℕ) where
   pub too_long : longest < length s → refusal 40 ≡ usage_of s
@@ -115,16 +115,16 @@ module _ (s : List ℕ) where
   too_long h = rw (lt-leb (length s) longest h)
 
   module _ (short : length s ≤ longest) {t : Taken} (p : t ≡ taken_of (read_text deepest s)) where
-    pub is-usage : whole_taken t ≡ true → answer_of (weight_taken t) ≡ usage_of s
+    pub is_usage : whole_taken t ≡ true → answer_of (weight_taken t) ≡ usage_of s
     unfolding usage_of refuse
-    is-usage e =
+    is_usage e =
         let h : is_whole (read_text deepest s) ≡ true = sym (ap whole_taken p ∙ whole-taken (read_text deepest s)) ∙ e in
         rw (le-leb (length s) longest short, whole-deeper deepest any_depth s short h, h, p) (weight-taken (read_text deepest s) h)
 
     module _ (e : whole_taken t ≡ false) {x : Taken} (q : x ≡ taken_of (read_text any_depth s)) where
-      pub too-deep : whole_taken x ≡ true → refusal 42 ≡ usage_of s
+      pub too_deep : whole_taken x ≡ true → refusal 42 ≡ usage_of s
       unfolding usage_of refuse
-      too-deep f =
+      too_deep f =
           rw (
             le-leb (length s) longest short,
             sym (ap whole_taken q ∙ whole-taken (read_text any_depth s)) ∙ f,

@@ -6,7 +6,7 @@ use Prim.Native.Nat.{ℕ, zero, suc, ◌+◌, ◌-◌, ◌≤◌}
 use native.Mathlib.Omega.{arith}
 use lib.ListN.{length, length-append}
 use Rattle.usages.specs.Usage.{Usage, either, both}
-use Rattle.usage_text.specs.Signs.{ampersand, star, close-sign}
+use Rattle.usage_text.specs.Signs.{ampersand, star, close_sign}
 use Rattle.usage_text.specs.Grammar.{Texts, Joined, single, more, Prefixed, plain, locked, unlocked, bracket, Shuffle, Choice, Inside}
 use Rattle.usage_text.specs.Reading.{Read, read, read_prefixed, read_shuffle, read_choice, read_inside}
 use Rattle.usage_text.specs.declared.Weight.{Weight}
@@ -25,17 +25,17 @@ pub either-low : (n m : ℕ) (w v : Weight) → Low n w → Low m v → Low (n +
 unfolding either_of
 either-low n m w v p q =
     record {
-      dip-low = greater-low w.dip v.dip (n + m) (omega (arith, p.dip-low)) (omega (arith, q.dip-low));
-      rise-low = greater-low (w.rise + (v.dip - w.dip)) (v.rise + (w.dip - v.dip)) (n + m)
-          (omega (arith, p.rise-low, q.dip-low)) (omega (arith, q.rise-low, p.dip-low));
+      dip_low = greater-low w.dip v.dip (n + m) (omega (arith, p.dip_low)) (omega (arith, q.dip_low));
+      rise_low = greater-low (w.rise + (v.dip - w.dip)) (v.rise + (w.dip - v.dip)) (n + m)
+          (omega (arith, p.rise_low, q.dip_low)) (omega (arith, q.rise_low, p.dip_low));
     }
 
 pub both-low : (n m : ℕ) (w v : Weight) → Low n w → Low m v → Low (n + m) (both_of w v)
 both-low n m w v p q =
-    record { dip-low = omega (arith, p.dip-low, q.dip-low); rise-low = omega (arith, p.rise-low, q.rise-low) }
+    record { dip_low = omega (arith, p.dip_low, q.dip_low); rise_low = omega (arith, p.rise_low, q.rise_low) }
 
 pub higher-low : (n m : ℕ) (w : Weight) → n ≤ m → Low n w → Low m w
-higher-low n m w l p = record { dip-low = omega (arith, p.dip-low); rise-low = omega (arith, p.rise-low) }
+higher-low n m w l p = record { dip_low = omega (arith, p.dip_low); rise_low = omega (arith, p.rise_low) }
 
 -- the usages that are joined, as their weights are
 pub either-weight : (u v : Usage) → weight_of (either u v) ≡ either_of (weight_of u) (weight_of v)
@@ -55,15 +55,15 @@ joined-light P sign join sums light s u (more {s = q} {t = t} {u = v} {v = w} j 
 
 prefixed-light : (P : Texts) → Light P → Light (Prefixed P)
 unfolding weight_of after_lock
-prefixed-light P light s u plain = record { dip-low = omega arith; rise-low = omega arith }
+prefixed-light P light s u plain = record { dip_low = omega arith; rise_low = omega arith }
 prefixed-light P light s u (locked {s = q} {u = v} p) =
     let l = prefixed-light P light q v p in
-    record { dip-low = omega (arith, l.dip-low); rise-low = omega (arith, l.rise-low) }
+    record { dip_low = omega (arith, l.dip_low); rise_low = omega (arith, l.rise_low) }
 prefixed-light P light s u (unlocked {s = q} {u = v} p) =
     let l = prefixed-light P light q v p in
-    record { dip-low = omega (arith, l.dip-low); rise-low = omega (arith, l.rise-low) }
+    record { dip_low = omega (arith, l.dip_low); rise_low = omega (arith, l.rise_low) }
 prefixed-light P light s u (bracket {s = q} {u = v} p) =
-    higher-low (length q) (suc (length (q ++ (close-sign ∷ [])))) (weight_of v) (omega (arith, length-append q (close-sign ∷ []))) (light q v p)
+    higher-low (length q) (suc (length (q ++ (close_sign ∷ [])))) (weight_of v) (omega (arith, length-append q (close_sign ∷ []))) (light q v p)
 
 shuffle-light : (P : Texts) → Light P → Light (Shuffle P)
 shuffle-light P light = joined-light (Prefixed P) star both (λ n m u v p q. rw (both-weight u v) (both-low n m (weight_of u) (weight_of v) p q)) (prefixed-light P light)
@@ -78,16 +78,16 @@ inside-light (suc d) s u p = choice-light (Inside d) (inside-light d) s u p
 
 -- what was read, and what is left: together they are at most the text
 pub record Room (n : ℕ) (u : Usage) (r : List ℕ) : Type 0 where
-  pub dip-room : (weight_of u).dip + length r ≤ n
-  pub rise-room : (weight_of u).rise + length r ≤ n
+  pub dip_room : (weight_of u).dip + length r ≤ n
+  pub rise_room : (weight_of u).rise + length r ≤ n
 
 room : {P : Texts} {reads : List ℕ → Read} → Sound P reads → Light P → (s : List ℕ) (u : Usage) (r : List ℕ) → reads s ≡ read u r → Room (length s) u r
 room ok light s u r e =
     let t = ok s u r e in
     let l = light t.front u t.text in
     record {
-      dip-room = omega (arith, l.dip-low, ap length t.split, length-append t.front r);
-      rise-room = omega (arith, l.rise-low, ap length t.split, length-append t.front r);
+      dip_room = omega (arith, l.dip_low, ap length t.split, length-append t.front r);
+      rise_room = omega (arith, l.rise_low, ap length t.split, length-append t.front r);
     }
 
 module _ (d : ℕ) where

@@ -8,7 +8,7 @@ use lib.ListN.{length}
 use borrow.Author.Tests.{eq-eqb}
 use Rattle.ground.specs.Bytes.{at}
 use Rattle.usages.specs.Usage.{Usage, lock, unlock, either, both}
-use Rattle.usage_text.specs.Signs.{nought, ell, dot, hat, ampersand, star, open-sign, close-sign}
+use Rattle.usage_text.specs.Signs.{nought, ell, dot, hat, ampersand, star, open_sign, close_sign}
 use Rattle.usage_text.specs.Grammar.{Texts, Joined, single, more, Prefixed, plain, locked, unlocked, bracket, Shuffle, Choice, Inside, TextOf}
 use Rattle.usage_text.specs.declared.Head.TheVariants.{Nought, Lock, Unlock, Open}
 use Rattle.usage_text.specs.Reading.{Read, read, head_of, under, closed, onward, chain_from, chain, read_prefixed, read_shuffle, read_choice, read_inside, read_text}
@@ -39,17 +39,17 @@ unlock-head : (s : List ℕ) → head_of (hat ∷ ell ∷ dot ∷ s) ≡ Unlock
 unfolding head_of
 unlock-head s = refl
 
-open-head : (s : List ℕ) → head_of (open-sign ∷ s) ≡ Open
+open-head : (s : List ℕ) → head_of (open_sign ∷ s) ≡ Open
 unfolding head_of
 open-head s = refl
 
-closes : (u : Usage) (r : List ℕ) → closed (read u (close-sign ∷ r)) ≡ read u r
+closes : (u : Usage) (r : List ℕ) → closed (read u (close_sign ∷ r)) ≡ read u r
 unfolding closed
 closes u r = refl
 
 -- a closing bracket lies behind
 abbrev Closing : List ℕ → Type 0
-Closing l = (r : List ℕ) × (l ≡ close-sign ∷ r)
+Closing l = (r : List ℕ) × (l ≡ close_sign ∷ r)
 
 module _ (P : Texts) (inside : List ℕ → Read) (full : Full P Closing inside) where
   full-prefixed : Full (Prefixed P) Anything (read_prefixed inside)
@@ -59,9 +59,9 @@ module _ (P : Texts) (inside : List ℕ → Read) (full : Full P Closing inside)
   full-prefixed s u (unlocked {s = q} {u = v} p) r t =
       read-unlock inside (hat ∷ ell ∷ dot ∷ (q ++ r)) (unlock-head (q ++ r)) ∙ ap (under unlock) (full-prefixed q v p r t)
   full-prefixed s u (bracket {s = q} {u = v} p) r t =
-      read-open inside (open-sign ∷ ((q ++ (close-sign ∷ [])) ++ r)) (open-head ((q ++ (close-sign ∷ [])) ++ r))
-      ∙ ap (λ (l : List ℕ). closed (inside l)) (append_assoc q (close-sign ∷ []) r)
-      ∙ ap closed (full q v p (close-sign ∷ r) (r, refl))
+      read-open inside (open_sign ∷ ((q ++ (close_sign ∷ [])) ++ r)) (open-head ((q ++ (close_sign ∷ [])) ++ r))
+      ∙ ap (λ (l : List ℕ). closed (inside l)) (append_assoc q (close_sign ∷ []) r)
+      ∙ ap closed (full q v p (close_sign ∷ r) (r, refl))
       ∙ closes v r
 
 module _ (P : Texts) (Behind : List ℕ → Type 0) (part : List ℕ → Read) (sign : ℕ) (positive : 0 < sign) (join : Usage → Usage → Usage)

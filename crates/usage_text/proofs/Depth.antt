@@ -4,7 +4,7 @@ use Prim.Native.Nat.{ℕ, zero, suc, ◌+◌, ◌*◌, ◌≤◌}
 use native.Mathlib.Omega.{arith}
 use lib.ListN.{length, length-append}
 use Rattle.usages.specs.Usage.{Usage}
-use Rattle.usage_text.specs.Signs.{close-sign}
+use Rattle.usage_text.specs.Signs.{close_sign}
 use Rattle.usage_text.specs.Exact.{DeepEnough}
 use Rattle.usage_text.specs.Grammar.{Texts, Joined, single, more, Prefixed, plain, locked, unlocked, bracket, Shuffle, Choice, Inside}
 
@@ -26,7 +26,7 @@ prefixed-within : (P Q : Texts) (n : ℕ) → Inner n P Q → Within n (Prefixed
 prefixed-within P Q n inner s u l plain = plain
 prefixed-within P Q n inner s u l (locked {s = q} {u = v} p) = locked (prefixed-within P Q n inner q v (omega arith) p)
 prefixed-within P Q n inner s u l (unlocked {s = q} {u = v} p) = unlocked (prefixed-within P Q n inner q v (omega arith) p)
-prefixed-within P Q n inner s u l (bracket {s = q} {u = v} p) = bracket (inner q v (omega (arith, length-append q (close-sign ∷ []))) p)
+prefixed-within P Q n inner s u l (bracket {s = q} {u = v} p) = bracket (inner q v (omega (arith, length-append q (close_sign ∷ []))) p)
 
 choice-within : (P Q : Texts) (n : ℕ) → Inner n P Q → Within n (Choice P) (Choice Q)
 choice-within P Q n inner =

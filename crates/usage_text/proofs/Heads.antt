@@ -10,7 +10,7 @@ use borrow.Author.Tests.{eqb-true}
 use Rattle.ground.specs.Bytes.{at}
 use Rattle.ground.proofs.Bools.{and-fst, and-snd}
 use Rattle.usages.specs.Usage.{Usage, done, lock, unlock}
-use Rattle.usage_text.specs.Signs.{nought, ell, dot, hat, open-sign}
+use Rattle.usage_text.specs.Signs.{nought, ell, dot, hat, open_sign}
 use Rattle.usage_text.specs.declared.Head.{Head}
 use Rattle.usage_text.specs.declared.Head.TheVariants.{Nought, Lock, Unlock, Open, Other}
 use Rattle.usage_text.specs.Reading.{Read, unread, read, at_nought, at_lock, at_unlock, at_open, head_of, under, closed, prefixed, onward}
@@ -86,9 +86,9 @@ module _ (s : List ℕ) where
       (eqb-true (at s 1) ell (and-fst (eqb (at s 1) ell) (eqb (at s 2) dot) u))
       (eqb-true (at s 2) dot (and-snd (eqb (at s 1) ell) (eqb (at s 2) dot) u))
 
-  pub head-open : head_of s ≡ Open → s ≡ open-sign ∷ drop 1 s
+  pub head-open : head_of s ≡ Open → s ≡ open_sign ∷ drop 1 s
   unfolding head_of chosen
-  head-open e = begins open-sign s (lit< tt) (eqb-true (at s 0) open-sign (chosen-open (at_nought s) (at_lock s) (at_unlock s) (at_open s) e))
+  head-open e = begins open_sign s (lit< tt) (eqb-true (at s 0) open_sign (chosen-open (at_nought s) (at_lock s) (at_unlock s) (at_open s) e))
 
 -- ---- what is read at each head
 module _ (inside : List ℕ → Read) (k : ℕ) (s : List ℕ) where

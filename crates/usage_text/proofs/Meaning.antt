@@ -22,7 +22,7 @@ use Rattle.usage_text.specs.Grammar.{TextOf}
 use Rattle.usage_text.specs.Reading.{Read, read, read_text, is_whole}
 use Rattle.usage_text.specs.Weights.{weight_of}
 use Rattle.usage_text.specs.Answer.{longest, deepest, any_depth, dip_of, in_range, is_reliable, refusal, told, weighed, usage_of}
-use Rattle.usage_text.specs.Meaning.{Weighs, InEntry, UsageMeans, UsageInEntry, Says, too_long, no-usage, too-deep, too_wide, is-usage}
+use Rattle.usage_text.specs.Meaning.{Weighs, InEntry, UsageMeans, UsageInEntry, Says, too_long, no_usage, too_deep, too_wide, is_usage}
 use Rattle.usage_text.proofs.Weights.{min-dip}
 use Rattle.usage_text.proofs.Grammar.{text-read, whole-text, text-whole}
 use Rattle.usage_text.proofs.Depth.{deep-enough}
@@ -69,23 +69,23 @@ in_entry : (u : Usage) → in_range u ≡ true → InEntry (dip_of u) (fin_of u)
 unfolding in_range
 in_entry u e =
     let z = near-zero (fin_of u) (leb-true _ _ (and-snd (leb (dip_of u) 63) (leb (nat_abs (fin_of u)) 63) e)) in
-    record { dip-in = leb-true _ _ (and-fst (leb (dip_of u) 63) (leb (nat_abs (fin_of u)) 63) e); end-above = z.0; end_below = z.1 }
+    record { dip_in = leb-true _ _ (and-fst (leb (dip_of u) 63) (leb (nat_abs (fin_of u)) 63) e); end_above = z.0; end_below = z.1 }
 
 entry_in : (u : Usage) → InEntry (dip_of u) (fin_of u) → in_range u ≡ true
 unfolding in_range
 entry_in u h =
-    and_both (leb (dip_of u) 63) (leb (nat_abs (fin_of u)) 63) (le-leb _ _ h.dip-in) (le-leb _ _ (zero-near (fin_of u) h.end-above h.end_below))
+    and_both (leb (dip_of u) 63) (leb (nat_abs (fin_of u)) 63) (le-leb _ _ h.dip_in) (le-leb _ _ (zero-near (fin_of u) h.end_above h.end_below))
 
 nothing-in : InEntry 0 (pos 0)
 nothing-in =
     let z = near-zero (pos 0) (omega arith) in
-    record { dip-in = omega arith; end-above = z.0; end_below = z.1 }
+    record { dip_in = omega arith; end_above = z.0; end_below = z.1 }
 
 -- ---- the answer says so
 weighed-says : (s : List ℕ) (u : Usage) → length s ≤ longest → TextOf deepest s u → (t : Bool) → in_range u ≡ t
     → Says s (refuse t (refusal 43) (told u))
 unfolding refuse
-weighed-says s u l p true e = is-usage l p (weighs u) (in_entry u e)
+weighed-says s u l p true e = is_usage l p (weighs u) (in_entry u e)
 weighed-says s u l p false e = too_wide l p (weighs u) (λ h. never (entry_in u h) e)
 
 answer-says : (s : List ℕ) → Says s (usage_of s)
@@ -102,12 +102,12 @@ answer-says s = long (leb (length s) longest) refl
         subst (λ (a : Reading). Says s a) (sym (read_as (read_text deepest s) w.0 w.1)) (weighed-says s w.0 l w.2 (in_range w.0) refl)
     deep l false e f =
         let w = whole-text any_depth s f in
-        too-deep l any_depth w.2 (λ v p. never (text-whole deepest s v p) e)
+        too_deep l any_depth w.2 (λ v p. never (text-whole deepest s v p) e)
 
     none : length s ≤ longest → (t : Bool) → is_whole (read_text any_depth s) ≡ t
         → Says s (refuse t (refusal 41) (refuse (is_whole (read_text deepest s)) (refusal 42) (weighed (read_text deepest s))))
     none l true e = deep l (is_whole (read_text deepest s)) refl e
-    none l false e = no-usage l (λ d u p. never (text-whole any_depth s u (deep-enough d any_depth s u l p)) e)
+    none l false e = no_usage l (λ d u p. never (text-whole any_depth s u (deep-enough d any_depth s u l p)) e)
 
     long : (t : Bool) → leb (length s) longest ≡ t
         → Says s (refuse t (refusal 40) (refuse (is_whole (read_text any_depth s)) (refusal 41) (refuse (is_whole (read_text deepest s)) (refusal 42) (weighed (read_text deepest s)))))
@@ -160,8 +160,8 @@ module _ (s : List ℕ) (l : length s ≤ longest) where
 says-answer : (s : List ℕ) (a : Reading) → Says s a → a ≡ usage_of s
 unfolding usage_of refuse
 says-answer s a (too_long h) = rw (lt-leb (length s) longest h)
-says-answer s a (no-usage l h) = rw (le-leb (length s) longest l, no_text s l any_depth (h any_depth))
-says-answer s a (too-deep l d {u} p h) =
+says-answer s a (no_usage l h) = rw (le-leb (length s) longest l, no_text s l any_depth (h any_depth))
+says-answer s a (too_deep l d {u} p h) =
     rw (le-leb (length s) longest l, text-whole any_depth s u (deep-enough d any_depth s u l p), no_text s l deepest h)
 says-answer s a (too_wide l {u} p {d} {e} {b} w h) = sym (usage-answer s l u p false (go (in_range u) refl))
   where
@@ -170,7 +170,7 @@ says-answer s a (too_wide l {u} p {d} {e} {b} w h) = sym (usage-answer s l u p f
         let o = weighs-once u w in
         absurd (h (subst (λ (z : ℤ). InEntry d z) o.1 (subst (λ (n : ℕ). InEntry n (fin_of u)) o.0 (in_entry u q))))
     go false q = refl
-says-answer s a (is-usage l {u} p {d} {e} {b} w h) = go (weighs-once u w)
+says-answer s a (is_usage l {u} p {d} {e} {b} w h) = go (weighs-once u w)
   where
     go : (dip_of u ≡ d) × (fin_of u ≡ e) × (is_reliable u ≡ b) → record { number = 0; dip = d; end = e; reliable = b } ≡ usage_of s
     go o =
@@ -184,10 +184,10 @@ usage-means s a = (says-answer s a, λ e. subst (λ (x : Reading). Says s x) (sy
 says-in-entry : {s : List ℕ} {a : Reading} → Says s a → InEntry a.dip a.end
 unfolding up down
 says-in-entry (too_long h) = nothing-in
-says-in-entry (no-usage l h) = nothing-in
-says-in-entry (too-deep l d p h) = nothing-in
+says-in-entry (no_usage l h) = nothing-in
+says-in-entry (too_deep l d p h) = nothing-in
 says-in-entry (too_wide l p w h) = nothing-in
-says-in-entry (is-usage l p w h) = h
+says-in-entry (is_usage l p w h) = h
 
 -- THEOREM
 pub usage-in-entry : UsageInEntry
@@ -195,4 +195,4 @@ usage-in-entry s = says-in-entry (answer-says s)
 
 -- the same of the end's size, for those who compute with it
 pub end-small : (s : List ℕ) → nat_abs (usage_of s).end ≤ 63
-end-small s = let h = usage-in-entry s in zero-near (usage_of s).end h.end-above h.end_below
+end-small s = let h = usage-in-entry s in zero-near (usage_of s).end h.end_above h.end_below

@@ -9,7 +9,7 @@ use lib.ListN.{length, drop}
 use borrow.Author.Tests.{eqb-true}
 use Rattle.ground.specs.Bytes.{at}
 use Rattle.usages.specs.Usage.{Usage, lock, unlock, either, both}
-use Rattle.usage_text.specs.Signs.{nought, ell, dot, hat, ampersand, star, open-sign, close-sign}
+use Rattle.usage_text.specs.Signs.{nought, ell, dot, hat, ampersand, star, open_sign, close_sign}
 use Rattle.usage_text.specs.Grammar.{Texts, Joined, single, more, Prefixed, plain, locked, unlocked, bracket, Shuffle, Choice, Inside, TextOf}
 use Rattle.usage_text.specs.declared.Head.{Head}
 use Rattle.usage_text.specs.declared.Head.TheVariants.{Nought, Lock, Unlock, Open, Other}
@@ -40,13 +40,13 @@ under-read : (f : Usage → Usage) (x : Read) (u : Usage) (r : List ℕ) → und
 under-read f unread u r e = not-read e
 under-read f (read v q) u r e = (v, ap (read v) (same_rest e), same-usage e)
 
-closed-read : (x : Read) (u : Usage) (r : List ℕ) → closed x ≡ read u r → x ≡ read u (close-sign ∷ r)
+closed-read : (x : Read) (u : Usage) (r : List ℕ) → closed x ≡ read u r → x ≡ read u (close_sign ∷ r)
 unfolding closed
 closed-read unread u r e = not-read e
-closed-read (read v q) u r e = go (eqb (at q 0) close-sign) refl e
+closed-read (read v q) u r e = go (eqb (at q 0) close_sign) refl e
   where
-    go : (t : Bool) → eqb (at q 0) close-sign ≡ t → cond t (read v (drop 1 q)) unread ≡ read u r → read v q ≡ read u (close-sign ∷ r)
-    go true p e = rw (begins close-sign q (lit< tt) (eqb-true (at q 0) close-sign p), same_rest e, same-usage e)
+    go : (t : Bool) → eqb (at q 0) close_sign ≡ t → cond t (read v (drop 1 q)) unread ≡ read u r → read v q ≡ read u (close_sign ∷ r)
+    go true p e = rw (begins close_sign q (lit< tt) (eqb-true (at q 0) close_sign p), same_rest e, same-usage e)
     go false p e = not-read e
 
 -- ---- a sort and its reader
@@ -59,11 +59,11 @@ took {P} {s} {u} {v} {r} {q} e t =
     }
 
 module _ (P : Texts) (inside : List ℕ → Read) (ok : Sound P inside) where
-  bracketed : (s : List ℕ) (u : Usage) (r : List ℕ) → s ≡ open-sign ∷ drop 1 s → Took P (drop 1 s) u (close-sign ∷ r) → Took (Prefixed P) s u r
+  bracketed : (s : List ℕ) (u : Usage) (r : List ℕ) → s ≡ open_sign ∷ drop 1 s → Took P (drop 1 s) u (close_sign ∷ r) → Took (Prefixed P) s u r
   bracketed s u r p t =
       record {
-        front = open-sign ∷ (t.front ++ (close-sign ∷ []));
-        split = p ∙ ap (λ (l : List ℕ). open-sign ∷ l) (t.split ∙ sym (append_assoc t.front (close-sign ∷ []) r));
+        front = open_sign ∷ (t.front ++ (close_sign ∷ []));
+        split = p ∙ ap (λ (l : List ℕ). open_sign ∷ l) (t.split ∙ sym (append_assoc t.front (close_sign ∷ []) r));
         text = bracket t.text;
       }
 
@@ -90,7 +90,7 @@ module _ (P : Texts) (inside : List ℕ → Read) (ok : Sound P inside) where
             split = head-unlock s p ∙ ap (λ (l : List ℕ). hat ∷ ell ∷ dot ∷ l) t.split;
             text = subst (λ (w : Usage). Prefixed P (hat ∷ ell ∷ dot ∷ t.front) w) x.2 (unlocked t.text);
           }
-      go Open p ih = bracketed s u r (head-open s p) (ok (drop 1 s) u (close-sign ∷ r) (closed-read (inside (drop 1 s)) u r (sym (at_open_lem inside k s p) ∙ e)))
+      go Open p ih = bracketed s u r (head-open s p) (ok (drop 1 s) u (close_sign ∷ r) (closed-read (inside (drop 1 s)) u r (sym (at_open_lem inside k s p) ∙ e)))
       go Other p ih = not-read (sym (at_other inside k s p) ∙ e)
 
 module _ (P : Texts) (part : List ℕ → Read) (sign : ℕ) (positive : 0 < sign) (join : Usage → Usage → Usage) (ok : Sound P part) where

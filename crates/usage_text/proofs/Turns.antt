@@ -10,7 +10,7 @@ use lib.ListN.{length, drop, length-drop}
 use borrow.Author.Tests.{eq-eqb, ne_eqb, eqb-true}
 use Rattle.ground.specs.Bytes.{at}
 use Rattle.usages.specs.Usage.{Usage, lock, unlock, either, both}
-use Rattle.usage_text.specs.Signs.{ampersand, star, close-sign}
+use Rattle.usage_text.specs.Signs.{ampersand, star, close_sign}
 use Rattle.usage_text.specs.Grammar.{Texts, Prefixed, Shuffle, Inside}
 use Rattle.usage_text.specs.declared.Head.TheVariants.{Nought, Lock, Unlock, Open, Other}
 use Rattle.usage_text.specs.declared.Weight.{Weight}
@@ -114,9 +114,9 @@ module _ (k : Joint) where
       let g = taken-some (part s) p q in
       let l : length r ≡ length g.left = ap length (left_is s r g e) in
       let m = room s g.usage g.left g.was in (
-        omega (arith, l, m.dip-room),
+        omega (arith, l, m.dip_room),
         subst (λ (v : Weight). Low (length s - length r) v) g.weighs
-            (record { dip-low = omega (arith, l, m.dip-room); rise-low = omega (arith, l, m.rise-room) }),
+            (record { dip_low = omega (arith, l, m.dip_room); rise_low = omega (arith, l, m.rise_room) }),
       )
 
   -- what the next call asks: the text is short enough, and the weight leaves room for it
@@ -188,22 +188,22 @@ module _ (d : ℕ) (s : List ℕ) (positive : d ≡ 0 → ⊥) {t : Taken} (p : 
       let m = sound-choice (Inside (d - 1)) (read_inside (d - 1)) (sound-inside (d - 1)) s g.usage g.left g.was in
       e ∙ ap (rest_of s) (sym g.counted) ∙ rest-is s m.front g.left m.split
 
-  pub bracket-closed : {n : ℕ} {w : Weight} (r : List ℕ) → t ≡ Weighed n w → r ≡ rest_of s n → at r 0 ≡ close-sign
+  pub bracket-closed : {n : ℕ} {w : Weight} (r : List ℕ) → t ≡ Weighed n w → r ≡ rest_of s n → at r 0 ≡ close_sign
       → Weighed (length r - 1) w ≡ taken_of (closed (read_inside d s))
   unfolding closed taken_of
   bracket-closed {n} {w} r q e f =
       let g = taken-some (read_choice (read_inside (d - 1)) s) p q in
       let l = bracket-left r g e in
-      rw (inside-deeper d s positive, g.was, ← l, eq-eqb (at r 0) close-sign f, g.weighs)
+      rw (inside-deeper d s positive, g.was, ← l, eq-eqb (at r 0) close_sign f, g.weighs)
       (ap (λ (k : ℕ). Weighed k w) (sym (length-drop 1 r)))
 
-  pub bracket-open : {n : ℕ} {w : Weight} (r : List ℕ) → t ≡ Weighed n w → r ≡ rest_of s n → (at r 0 ≡ close-sign → ⊥)
+  pub bracket-open : {n : ℕ} {w : Weight} (r : List ℕ) → t ≡ Weighed n w → r ≡ rest_of s n → (at r 0 ≡ close_sign → ⊥)
       → Nothing ≡ taken_of (closed (read_inside d s))
   unfolding closed taken_of
   bracket-open r q e f =
       let g = taken-some (read_choice (read_inside (d - 1)) s) p q in
       let l = bracket-left r g e in
-      rw (inside-deeper d s positive, g.was, ← l, ne_eqb (at r 0) close-sign f)
+      rw (inside-deeper d s positive, g.was, ← l, ne_eqb (at r 0) close_sign f)
 
 pub not-empty : (s : List ℕ) (b : ℕ) → 0 < b → at s 0 ≡ b → 1 ≤ length s
 not-empty [] b l e = absurd (omega arith)
@@ -228,7 +228,7 @@ taken-low d s l = go (read_prefixed (read_inside d) s) refl
     go unread e = tt
     go (read u r) e =
         let m = prefixed-room d s u r e in
-        record { dip-low = omega (arith, m.dip-room); rise-low = omega (arith, m.rise-room) }
+        record { dip_low = omega (arith, m.dip_room); rise_low = omega (arith, m.rise_room) }
 
 module _ (inside : List ℕ → Read) (s r : List ℕ) where
   pub takes-nought : head_of s ≡ Nought → r ≡ drop 1 s → Weighed (length r) (weight 0 0) ≡ taken_of (read_prefixed inside s)

@@ -2,7 +2,7 @@
 -- Nothing here says how a text is read: specs/Exact.antt holds the reader to it.
 use Rattle.std.specs.Prelude.{List, [], ◌∷◌, ◌++◌, ℕ, zero, suc}
 use Rattle.usages.specs.Usage.{Usage, done, lock, unlock, either, both}
-use Rattle.usage_text.specs.Signs.{nought, ell, dot, hat, ampersand, star, open-sign, close-sign}
+use Rattle.usage_text.specs.Signs.{nought, ell, dot, hat, ampersand, star, open_sign, close_sign}
 
 -- a sort of texts: which byte strings it has, and of which usage each is a text
 abbrev pub Texts : Type 1
@@ -13,7 +13,7 @@ pub data Prefixed (Inside : Texts) : List ℕ → Usage → Type 0 where
   plain : Prefixed Inside (nought ∷ []) done
   locked : {s : List ℕ} {u : Usage} → Prefixed Inside s u → Prefixed Inside (ell ∷ dot ∷ s) (lock u)
   unlocked : {s : List ℕ} {u : Usage} → Prefixed Inside s u → Prefixed Inside (hat ∷ ell ∷ dot ∷ s) (unlock u)
-  bracket : {s : List ℕ} {u : Usage} → Inside s u → Prefixed Inside (open-sign ∷ (s ++ (close-sign ∷ []))) u
+  bracket : {s : List ℕ} {u : Usage} → Inside s u → Prefixed Inside (open_sign ∷ (s ++ (close_sign ∷ []))) u
 
 -- "both group to the left": one part, or several with a sign between them, the last joined to all before it
 pub data Joined (Part : Texts) (sign : ℕ) (join : Usage → Usage → Usage) : List ℕ → Usage → Type 0 where

@@ -15,22 +15,22 @@ pub record Weighs (u : Usage) (d : ℕ) (e : ℤ) (b : Bool) : Type 0 where
 
 -- "the entry's range": dip 0..63, end −63..63
 pub record InEntry (d : ℕ) (e : ℤ) : Type 0 where
-  pub dip-in : d ≤ widest
-  pub end-above : neg_ℤ (pos widest) ≤ℤ e
+  pub dip_in : d ≤ widest
+  pub end_above : neg_ℤ (pos widest) ≤ℤ e
   pub end_below : e ≤ℤ pos widest
 
 pub data Says (s : List ℕ) : Reading → Type 0 where
   -- "40 too long"
   too_long : longest < length s → Says s (refusal 40)
   -- "41 not a usage": at no depth, of no usage
-  no-usage : length s ≤ longest → ((d : ℕ) (u : Usage) → TextOf d s u → ⊥) → Says s (refusal 41)
+  no_usage : length s ≤ longest → ((d : ℕ) (u : Usage) → TextOf d s u → ⊥) → Says s (refusal 41)
   -- "42 too deep": a usage at some depth, and none at 16
-  too-deep : length s ≤ longest → (d : ℕ) {u : Usage} → TextOf d s u → ((v : Usage) → TextOf deepest s v → ⊥) → Says s (refusal 42)
+  too_deep : length s ≤ longest → (d : ℕ) {u : Usage} → TextOf d s u → ((v : Usage) → TextOf deepest s v → ⊥) → Says s (refusal 42)
   -- "43 dip or end outside the entry's range"
   too_wide : length s ≤ longest → {u : Usage} → TextOf deepest s u → {d : ℕ} {e : ℤ} {b : Bool} → Weighs u d e b → (InEntry d e → ⊥)
       → Says s (refusal 43)
   -- "Give its dip and end .., and whether it is reliable"
-  is-usage : length s ≤ longest → {u : Usage} → TextOf deepest s u → {d : ℕ} {e : ℤ} {b : Bool} → Weighs u d e b → InEntry d e
+  is_usage : length s ≤ longest → {u : Usage} → TextOf deepest s u → {d : ℕ} {e : ℤ} {b : Bool} → Weighs u d e b → InEntry d e
       → Says s (record { number = 0; dip = d; end = e; reliable = b })
 
 -- of every text exactly one answer is so, and it is the one given

@@ -3,7 +3,7 @@
 use Rattle.std.specs.Prelude.{List, Bool, true, false, cond, ◌&&◌, ℕ, zero, suc, eqb, length, drop}
 use Rattle.ground.specs.Bytes.{at}
 use Rattle.usages.specs.Usage.{Usage, done, lock, unlock, either, both}
-use Rattle.usage_text.specs.Signs.{nought, ell, dot, hat, ampersand, star, open-sign, close-sign}
+use Rattle.usage_text.specs.Signs.{nought, ell, dot, hat, ampersand, star, open_sign, close_sign}
 use Rattle.usage_text.specs.declared.Head.{Head}
 use Rattle.usage_text.specs.declared.Head.TheVariants.{Nought, Lock, Unlock, Open, Other}
 
@@ -23,7 +23,7 @@ abbrev pub at_unlock : List ℕ → Bool
 at_unlock s = eqb (at s 0) hat && (eqb (at s 1) ell && eqb (at s 2) dot)
 
 abbrev pub at_open : List ℕ → Bool
-at_open s = eqb (at s 0) open-sign
+at_open s = eqb (at s 0) open_sign
 
 unfoldable pub head_of : List ℕ → Head
 head_of s = cond (at_nought s) Nought (cond (at_lock s) Lock (cond (at_unlock s) Unlock (cond (at_open s) Open Other)))
@@ -36,7 +36,7 @@ under f (read u r) = read (f u) r
 -- what was read stands before a closing bracket
 unfoldable pub closed : Read → Read
 closed unread = unread
-closed (read u r) = cond (eqb (at r 0) close-sign) (read u (drop 1 r)) unread
+closed (read u r) = cond (eqb (at r 0) close_sign) (read u (drop 1 r)) unread
 
 -- what a bracket holds, and the closing bracket
 abbrev pub read_bracket : (List ℕ → Read) → List ℕ → Read

@@ -54,8 +54,8 @@ behind_unlock = heavier after_unlock
 
 -- both numbers are n at most
 pub record Low (n : ℕ) (w : Weight) : Type 0 where
-  pub dip-low : w.dip ≤ n
-  pub rise-low : w.rise ≤ n
+  pub dip_low : w.dip ≤ n
+  pub rise_low : w.rise ≤ n
 
 abbrev pub LowTaken : ℕ → Taken → Type 0
 LowTaken n Nothing = Unit

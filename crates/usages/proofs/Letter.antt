@@ -10,7 +10,7 @@ use borrow.Author.Tests.{eqb-true}
 use Rattle.ground.proofs.Bools.{and-fst, and-snd}
 use Rattle.usages.specs.Usage.{Usage, done, lock, unlock, either, both}
 use Rattle.usages.specs.Counts.{most, fin_of}
-use Rattle.usages.specs.Letter.{Same, same, back, through, in-lock, in-unlock, in_either, in_both, either-grouped, either-turned, both-grouped, both-turned, both-done, LetterStep, locks, unlocks, by_left, by_right, on-left, alike, LetterReach, here, further, LetterReliable, shown, LetterDiffers, LetterDisagrees}
+use Rattle.usages.specs.Letter.{Same, same, back, through, in_lock, in_unlock, in_either, in_both, either_grouped, either_turned, both_grouped, both_turned, both_done, LetterStep, locks, unlocks, by_left, by_right, on_left, alike, LetterReach, here, further, LetterReliable, shown, LetterDiffers, LetterDisagrees}
 
 -- ---- what no congruence changes
 -- nothing in it can be done
@@ -52,47 +52,47 @@ and-true true = refl
 and-true false = refl
 
 record Alike (u v : Usage) : Type 0 where
-  still-too : still u ≡ still v
-  choices-too : choices u ≡ choices v
-  moves-too : moves u ≡ moves v
+  still_too : still u ≡ still v
+  choices_too : choices u ≡ choices v
+  moves_too : moves u ≡ moves v
 
 same_alike : {u v : Usage} → Same u v → Alike u v
 unfolding still choices moves
-same_alike same = record { still-too = refl; choices-too = refl; moves-too = refl }
+same_alike same = record { still_too = refl; choices_too = refl; moves_too = refl }
 same_alike (back s) =
     let a = same_alike s in
-    record { still-too = sym a.still-too; choices-too = sym a.choices-too; moves-too = sym a.moves-too }
+    record { still_too = sym a.still_too; choices_too = sym a.choices_too; moves_too = sym a.moves_too }
 same_alike (through s t) =
     let a = same_alike s in
     let b = same_alike t in
-    record { still-too = a.still-too ∙ b.still-too; choices-too = a.choices-too ∙ b.choices-too; moves-too = a.moves-too ∙ b.moves-too }
-same_alike (in-lock s) =
+    record { still_too = a.still_too ∙ b.still_too; choices_too = a.choices_too ∙ b.choices_too; moves_too = a.moves_too ∙ b.moves_too }
+same_alike (in_lock s) =
     let a = same_alike s in
-    record { still-too = refl; choices-too = refl; moves-too = rw (a.still-too, a.choices-too) }
-same_alike (in-unlock s) = record { still-too = refl; choices-too = refl; moves-too = refl }
+    record { still_too = refl; choices_too = refl; moves_too = rw (a.still_too, a.choices_too) }
+same_alike (in_unlock s) = record { still_too = refl; choices_too = refl; moves_too = refl }
 same_alike (in_either s t) =
     let a = same_alike s in
     let b = same_alike t in
-    record { still-too = rw (a.still-too, b.still-too); choices-too = refl; moves-too = rw (a.still-too, b.still-too) }
+    record { still_too = rw (a.still_too, b.still_too); choices_too = refl; moves_too = rw (a.still_too, b.still_too) }
 same_alike (in_both s t) =
     let a = same_alike s in
     let b = same_alike t in
     record {
-      still-too = rw (a.still-too, b.still-too);
-      choices-too = rw (a.choices-too, b.choices-too);
-      moves-too = rw (a.moves-too, b.moves-too);
+      still_too = rw (a.still_too, b.still_too);
+      choices_too = rw (a.choices_too, b.choices_too);
+      moves_too = rw (a.moves_too, b.moves_too);
     }
-same_alike (either-grouped {u} {v} {w}) =
+same_alike (either_grouped {u} {v} {w}) =
     let e = and-grouped (still u) (still v) (still w) in
-    record { still-too = e; choices-too = refl; moves-too = ap (λ (t : Bool). cond t 0 2) e }
-same_alike (either-turned {u} {v}) =
+    record { still_too = e; choices_too = refl; moves_too = ap (λ (t : Bool). cond t 0 2) e }
+same_alike (either_turned {u} {v}) =
     let e = and-turned (still u) (still v) in
-    record { still-too = e; choices-too = refl; moves-too = ap (λ (t : Bool). cond t 0 2) e }
-same_alike (both-grouped {u} {v} {w}) =
-    record { still-too = and-grouped (still u) (still v) (still w); choices-too = omega arith; moves-too = omega arith }
-same_alike (both-turned {u} {v}) =
-    record { still-too = and-turned (still u) (still v); choices-too = omega arith; moves-too = omega arith }
-same_alike (both-done {u}) = record { still-too = and-true (still u); choices-too = omega arith; moves-too = omega arith }
+    record { still_too = e; choices_too = refl; moves_too = ap (λ (t : Bool). cond t 0 2) e }
+same_alike (both_grouped {u} {v} {w}) =
+    record { still_too = and-grouped (still u) (still v) (still w); choices_too = omega arith; moves_too = omega arith }
+same_alike (both_turned {u} {v}) =
+    record { still_too = and-turned (still u) (still v); choices_too = omega arith; moves_too = omega arith }
+same_alike (both_done {u}) = record { still_too = and-true (still u); choices_too = omega arith; moves_too = omega arith }
 
 still-moves : (u : Usage) → still u ≡ true → moves u ≡ 0
 unfolding still moves
@@ -111,8 +111,8 @@ module _ (Count : ℤ → Type 0) where
   still-stays e (unlocks c) = false≢true e
   still-stays e (by_left {u} {v} s) = still-stays (and-fst (still u) (still v) e) s
   still-stays e (by_right {u} {v} s) = still-stays (and-snd (still u) (still v) e) s
-  still-stays e (on-left {u} {v} s) = still-stays (and-fst (still u) (still v) e) s
-  still-stays e (alike p s q) = still-stays (sym (same_alike p).still-too ∙ e) s
+  still-stays e (on_left {u} {v} s) = still-stays (and-fst (still u) (still v) e) s
+  still-stays e (alike p s q) = still-stays (sym (same_alike p).still_too ∙ e) s
 
   -- a step of what has one move at most: it was that move, a lock, and one choice more is left
   record Moved (u : Usage) (n : ℤ) (v : Usage) (m : ℤ) : Type 0 where
@@ -145,7 +145,7 @@ module _ (Count : ℤ → Type 0) where
       chosen : (t : Bool) → (still u && still v) ≡ t → cond t 0 2 ≤ 1 → ⊥
       chosen true e k = still-stays (and-snd (still u) (still v) e) s
       chosen false e k = omega arith
-  step-moved (on-left {u} {v} s) l =
+  step-moved (on_left {u} {v} s) l =
       let h = step-moved s (omega arith) in
       record {
         one = omega (arith, h.one);
@@ -156,49 +156,49 @@ module _ (Count : ℤ → Type 0) where
   step-moved (alike p s q) l =
       let a = same_alike p in
       let b = same_alike q in
-      let h = step-moved s (omega (arith, a.moves-too)) in
+      let h = step-moved s (omega (arith, a.moves_too)) in
       record {
-        one = omega (arith, a.moves-too, h.one);
-        none = omega (arith, b.moves-too, h.none);
-        more = omega (arith, a.choices-too, b.choices-too, h.more);
+        one = omega (arith, a.moves_too, h.one);
+        none = omega (arith, b.moves_too, h.none);
+        more = omega (arith, a.choices_too, b.choices_too, h.more);
         locked = h.locked;
       }
 
   -- what `shown` comes to: itself, free, or two choices side by side, held
   record Free (u : Usage) (n : ℤ) : Type 0 where
-    one-move : moves u ≡ 1
+    one_move : moves u ≡ 1
     one_choice : choices u ≡ 1
     free : n ≡ pos 0
 
   record Held (u : Usage) (n : ℤ) : Type 0 where
     no_move : moves u ≡ 0
-    two-choices : choices u ≡ 2
+    two_choices : choices u ≡ 2
 
   reached : {v : Usage} {m : ℤ} → LetterReach Count shown (pos 0) v m → Free v m ⊎ Held v m
   unfolding moves choices still
-  reached here = inl (record { one-move = refl; one_choice = refl; free = refl })
+  reached here = inl (record { one_move = refl; one_choice = refl; free = refl })
   reached (further r s) =
       ⊎_elim
-      (λ f. let h = step-moved s (omega (arith, f.one-move)) in
-      inr (record { no_move = h.none; two-choices = omega (arith, h.more, f.one_choice) }))
+      (λ f. let h = step-moved s (omega (arith, f.one_move)) in
+      inr (record { no_move = h.none; two_choices = omega (arith, h.more, f.one_choice) }))
       (λ f. let h = step-moved s (omega (arith, f.no_move)) in absurd (omega (arith, h.one, f.no_move)))
       (reached r)
 
   -- ---- the two conditions
   few-choices : {v : Usage} {m : ℤ} → choices v ≤ 1 → Free v m ⊎ Held v m → m ≡ pos 0
-  few-choices l = ⊎_elim (λ f. f.free) (λ f. absurd (omega (arith, f.two-choices)))
+  few-choices l = ⊎_elim (λ f. f.free) (λ f. absurd (omega (arith, f.two_choices)))
 
   many-moves : {A : Type 0} {v : Usage} {m : ℤ} → 2 ≤ moves v → Free v m ⊎ Held v m → A
-  many-moves l = ⊎_elim (λ f. absurd (omega (arith, f.one-move))) (λ f. absurd (omega (arith, f.no_move)))
+  many-moves l = ⊎_elim (λ f. absurd (omega (arith, f.one_move))) (λ f. absurd (omega (arith, f.no_move)))
 
   pub letter-reliable : LetterReliable Count shown
   unfolding still choices moves
   letter-reliable =
       record {
-        ends-free = λ v m r e.
-            few-choices (⊎_elim (λ s. omega (arith, (same_alike s).choices-too)) (λ s. omega (arith, (same_alike s.1).choices-too)) e) (reached r);
+        ends_free = λ v m r e.
+            few-choices (⊎_elim (λ s. omega (arith, (same_alike s).choices_too)) (λ s. omega (arith, (same_alike s.1).choices_too)) e) (reached r);
         held = λ v m r e.
-            many-moves (⊎_elim (λ s. omega (arith, (same_alike s.2).moves-too)) (λ s. omega (arith, (same_alike s.3).moves-too)) e) (reached r);
+            many-moves (⊎_elim (λ s. omega (arith, (same_alike s.2).moves_too)) (λ s. omega (arith, (same_alike s.3).moves_too)) e) (reached r);
       }
 
 -- THEOREM

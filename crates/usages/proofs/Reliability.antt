@@ -8,7 +8,7 @@ use Rattle.ground.proofs.Bools.{or_right, and-fst, and-snd, and_both}
 use Rattle.usages.specs.Usage.{Usage, done, lock, unlock, either, both}
 use Rattle.usages.specs.Counts.{min_of, fin_of}
 use Rattle.usages.specs.Agreement.{MinIsLeast, FinIsGreatest, ReliableAgrees, FinishedMeans, UnlocksNextMeans}
-use Rattle.usages.specs.Steps.{Step, locks, unlocks, takes-left, takes-right, on-left, on-right, Reach, here, further, finished, unlocks_next, Reliable}
+use Rattle.usages.specs.Steps.{Step, locks, unlocks, takes_left, takes_right, on_left, on_right, Reach, here, further, finished, unlocks_next, Reliable}
 use Rattle.usages.proofs.Whole.{up, down, Le, up_le, le_up, up-eq, sum-up, one_more, one_less, zero-up, zero-down}
 use Rattle.usages.proofs.Bounds.{not-below, not-above}
 use Rattle.usages.proofs.Ways.{way_down, way_out}
@@ -43,8 +43,8 @@ unlock-step (both u v) n e = go (unlocks_next u) refl (λ p. unlock-step u n p) 
   where
     go : (t : Bool) → unlocks_next u ≡ t → (unlocks_next u ≡ true → (w : Usage) × Step u n w (n -ℤ pos 1))
         → (unlocks_next v ≡ true → (w : Usage) × Step v n w (n -ℤ pos 1)) → (w : Usage) × Step (both u v) n w (n -ℤ pos 1)
-    go true p l r = let x = l p in (both x.0 v, on-left x.1)
-    go false p l r = let x = r (or_right (unlocks_next u) (unlocks_next v) e p) in (both u x.0, on-right x.1)
+    go true p l r = let x = l p in (both x.0 v, on_left x.1)
+    go false p l r = let x = r (or_right (unlocks_next u) (unlocks_next v) e p) in (both u x.0, on_right x.1)
 
 or_left : (a b : Bool) → a ≡ true → (a || b) ≡ true
 or_left a b e = rw e
@@ -57,10 +57,10 @@ step-unlocks : {u v : Usage} {n m : ℤ} → Step u n v m → m ≡ n -ℤ pos 1
 unfolding unlocks_next
 step-unlocks (locks {u} {n}) e = absurd (omega (arith, one_more n, one_less n, ap up e, ap down e))
 step-unlocks unlocks e = refl
-step-unlocks (takes-left {u} {v} {n}) e = absurd (omega (arith, one_less n, ap up e, ap down e))
-step-unlocks (takes-right {u} {v} {n}) e = absurd (omega (arith, one_less n, ap up e, ap down e))
-step-unlocks (on-left {u} {v} s) e = or_left (unlocks_next u) (unlocks_next v) (step-unlocks s e)
-step-unlocks (on-right {u} {v} s) e = or-other (unlocks_next u) (unlocks_next v) (step-unlocks s e)
+step-unlocks (takes_left {u} {v} {n}) e = absurd (omega (arith, one_less n, ap up e, ap down e))
+step-unlocks (takes_right {u} {v} {n}) e = absurd (omega (arith, one_less n, ap up e, ap down e))
+step-unlocks (on_left {u} {v} s) e = or_left (unlocks_next u) (unlocks_next v) (step-unlocks s e)
+step-unlocks (on_right {u} {v} s) e = or-other (unlocks_next u) (unlocks_next v) (step-unlocks s e)
 
 -- THEOREM
 pub unlocks-next-means : UnlocksNextMeans
@@ -70,21 +70,21 @@ finished-stops : {u v : Usage} {n m : ℤ} → finished u ≡ true → Step u n 
 unfolding finished
 finished-stops e locks = false≢true e
 finished-stops e unlocks = false≢true e
-finished-stops e takes-left = false≢true e
-finished-stops e takes-right = false≢true e
-finished-stops e (on-left {u} {v} s) = finished-stops (and-fst (finished u) (finished v) e) s
-finished-stops e (on-right {u} {v} s) = finished-stops (and-snd (finished u) (finished v) e) s
+finished-stops e takes_left = false≢true e
+finished-stops e takes_right = false≢true e
+finished-stops e (on_left {u} {v} s) = finished-stops (and-fst (finished u) (finished v) e) s
+finished-stops e (on_right {u} {v} s) = finished-stops (and-snd (finished u) (finished v) e) s
 
 stops-finished : (u : Usage) (n : ℤ) → ((v : Usage) (m : ℤ) → Step u n v m → ⊥) → finished u ≡ true
 unfolding finished
 stops-finished done n h = refl
 stops-finished (lock u) n h = absurd (h u (n +ℤ pos 1) locks)
 stops-finished (unlock u) n h = absurd (h u (n -ℤ pos 1) unlocks)
-stops-finished (either u v) n h = absurd (h u n takes-left)
+stops-finished (either u v) n h = absurd (h u n takes_left)
 stops-finished (both u v) n h =
     and_both (finished u) (finished v)
-    (stops-finished u n (λ w m s. h (both w v) m (on-left s)))
-    (stops-finished v n (λ w m s. h (both u w) m (on-right s)))
+    (stops-finished u n (λ w m s. h (both w v) m (on_left s)))
+    (stops-finished v n (λ w m s. h (both u w) m (on_right s)))
 
 -- THEOREM
 pub finished-means : FinishedMeans
@@ -95,10 +95,10 @@ step_down : {u v : Usage} {n m : ℤ} → Step u n v m → (unlocks_next u ≡ t
 unfolding unlocks_next up down
 step_down (locks {u} {n}) h l = omega (arith, one_more n)
 step_down (unlocks {u} {n}) h l = omega (arith, le_up (pos 1) n (h refl), one_less n)
-step_down takes-left h l = l
-step_down takes-right h l = l
-step_down (on-left {u} {v} s) h l = step_down s (λ p. h (or_left (unlocks_next u) (unlocks_next v) p)) l
-step_down (on-right {u} {v} s) h l = step_down s (λ p. h (or-other (unlocks_next u) (unlocks_next v) p)) l
+step_down takes_left h l = l
+step_down takes_right h l = l
+step_down (on_left {u} {v} s) h l = step_down s (λ p. h (or_left (unlocks_next u) (unlocks_next v) p)) l
+step_down (on_right {u} {v} s) h l = step_down s (λ p. h (or-other (unlocks_next u) (unlocks_next v) p)) l
 
 never-below : {u : Usage} → Reliable u → {v : Usage} {m : ℤ} → Reach u (pos 0) v m → Le (pos 0) m
 never-below rel here = omega arith
@@ -111,14 +111,14 @@ reliable-zero u rel =
     let w = (min-least u).reached in
     let x = (fin-greatest u).reached in (
       up-eq (min_of u) (pos 0) (omega (arith, never-below rel w.1, le_up (min_of u) (pos 0) ((min-least u).lowest u (pos 0) here))),
-      rel.ends-free x.0 (fin_of u) x.2 x.1,
+      rel.ends_free x.0 (fin_of u) x.2 x.1,
     )
 
 pub zero-reliable : (u : Usage) → min_of u ≡ pos 0 → fin_of u ≡ pos 0 → Reliable u
 unfolding up down
 zero-reliable u p q =
     record {
-      ends-free = λ v m r e. up-eq m (pos 0) (omega (arith, low r, le_up m (pos 0) (rw q at ((fin-greatest u).highest v m r e))));
+      ends_free = λ v m r e. up-eq m (pos 0) (omega (arith, low r, le_up m (pos 0) (rw q at ((fin-greatest u).highest v m r e))));
       held = λ v m r e.
           let s = unlock-step v m e in
           up_le (pos 1) m (omega (arith, low (further r s.1), one_less m));

@@ -9,15 +9,15 @@ pub data Same : Usage → Usage → Type 0 where
   same : {u : Usage} → Same u u
   back : {u v : Usage} → Same u v → Same v u
   through : {u v w : Usage} → Same u v → Same v w → Same u w
-  in-lock : {u v : Usage} → Same u v → Same (lock u) (lock v)
-  in-unlock : {u v : Usage} → Same u v → Same (unlock u) (unlock v)
+  in_lock : {u v : Usage} → Same u v → Same (lock u) (lock v)
+  in_unlock : {u v : Usage} → Same u v → Same (unlock u) (unlock v)
   in_either : {u v w x : Usage} → Same u v → Same w x → Same (either u w) (either v x)
   in_both : {u v w x : Usage} → Same u v → Same w x → Same (both u w) (both v x)
-  either-grouped : {u v w : Usage} → Same (either (either u v) w) (either u (either v w))
-  either-turned : {u v : Usage} → Same (either u v) (either v u)
-  both-grouped : {u v w : Usage} → Same (both (both u v) w) (both u (both v w))
-  both-turned : {u v : Usage} → Same (both u v) (both v u)
-  both-done : {u : Usage} → Same (both u done) u
+  either_grouped : {u v w : Usage} → Same (either (either u v) w) (either u (either v w))
+  either_turned : {u v : Usage} → Same (either u v) (either v u)
+  both_grouped : {u v w : Usage} → Same (both (both u v) w) (both u (both v w))
+  both_turned : {u v : Usage} → Same (both u v) (both v u)
+  both_done : {u : Usage} → Same (both u done) u
 
 -- Definition 3.4. The paper counts in natural numbers, and its appendix below 0: Count says which integers are counts, and is left open
 pub data LetterStep (Count : ℤ → Type 0) : Usage → ℤ → Usage → ℤ → Type 0 where
@@ -25,7 +25,7 @@ pub data LetterStep (Count : ℤ → Type 0) : Usage → ℤ → Usage → ℤ �
   unlocks : {u : Usage} {n : ℤ} → Count (n -ℤ pos 1) → LetterStep Count (unlock u) n u (n -ℤ pos 1)
   by_left : {u v w : Usage} {n m : ℤ} → LetterStep Count u n w m → LetterStep Count (either u v) n w m
   by_right : {u v w : Usage} {n m : ℤ} → LetterStep Count v n w m → LetterStep Count (either u v) n w m
-  on-left : {u v w : Usage} {n m : ℤ} → LetterStep Count u n w m → LetterStep Count (both u v) n (both w v) m
+  on_left : {u v w : Usage} {n m : ℤ} → LetterStep Count u n w m → LetterStep Count (both u v) n (both w v) m
   alike : {u v w x : Usage} {n m : ℤ} → Same u v → LetterStep Count v n w m → Same w x → LetterStep Count u n x m
 
 pub data LetterReach (Count : ℤ → Type 0) (u : Usage) (n : ℤ) : Usage → ℤ → Type 0 where
@@ -35,7 +35,7 @@ pub data LetterReach (Count : ℤ → Type 0) (u : Usage) (n : ℤ) : Usage → 
 -- Definition 3.5: rel(U, 0)
 pub record LetterReliable (Count : ℤ → Type 0) (u : Usage) : Type 0 where
   -- "if U' ≡ 0 or U' ≡ 0&U1 for a usage U1, then n' = 0"
-  pub ends-free : (v : Usage) (m : ℤ) → LetterReach Count u (pos 0) v m
+  pub ends_free : (v : Usage) (m : ℤ) → LetterReach Count u (pos 0) v m
       → Same v done ⊎ ((w : Usage) × Same v (either done w)) → m ≡ pos 0
   -- "if U' ≡ (^L.U1 ⊗ U2) or U' ≡ (^L.U1 ⊗ U2)&U3, then n' ≥ 1"
   pub held : (v : Usage) (m : ℤ) → LetterReach Count u (pos 0) v m

@@ -17,7 +17,7 @@ mod wants;
 mod words;
 
 use std::io;
-use std::io::{BufWriter, Read, Write};
+use std::io::{Read, Write};
 
 // Room for the text. What fills it may be cut.
 type Space = [u8; 524288];
@@ -36,7 +36,5 @@ fn run(from: &mut impl Read, out: &mut impl Write, space: &mut Space) -> io::Res
 
 fn main(rt: HostRuntime) -> io::Result<()> {
     let mut space = [0u8; 524288];
-    let mut out = BufWriter::new(rt.alloc(), io::writer(&rt))?;
-    run(&mut rt.stdin(), &mut out, &mut space)?;
-    out.flush()
+    run(&mut rt.stdin(), &mut io::writer(&rt), &mut space)
 }

@@ -46,25 +46,25 @@ module _ (b : List ℕ) where
   unfolding In program_of method_at method_of
   listed (structural p) w = in_left _ Structural _ (map-in structural p (structure_places b) ((structure-judges b).listed p w))
   listed (form c l) w =
-      in_right _ Structural _ (in_left _ Forms _ (each_in _ _ (form_places b) c w.class-known
+      in_right _ Structural _ (in_left _ Forms _ (each_in _ _ (form_places b) c w.class_known
       (numbered-in _ _ (λ i. form c (i + 1)) (l - 1) (omega (arith, w.first, w.last)) (ap (form c) (omega (arith, w.first))))))
   listed (first c) w = in_right _ Structural _ (in_right _ Forms _ (each_in _ _ (rule_places b) c w (inl refl)))
   listed (rule c l) w =
-      in_right _ Structural _ (in_right _ Forms _ (each_in _ _ (rule_places b) c w.class-known
+      in_right _ Structural _ (in_right _ Forms _ (each_in _ _ (rule_places b) c w.class_known
       (inr (numbered-in _ _ (λ i. rule c (i + 1)) (l - 1) (omega (arith, w.first, w.last)) (ap (rule c) (omega (arith, w.first)))))))
 
   form-within : (p : Place) (c : ℕ) → c < classes b → In p (form_places b c) → Within b p
   unfolding program_of method_at method_of
   form-within p c l h =
       let i = in-numbered p (class_at b c).code (λ i. form c (i + 1)) h in
-      rw i.2 (record { class-known = l; first = omega arith; last = omega (arith, i.1) })
+      rw i.2 (record { class_known = l; first = omega arith; last = omega (arith, i.1) })
 
   rule-within : (p : Place) (c : ℕ) → c < classes b → In p (rule_places b c) → Within b p
   unfolding In program_of method_at method_of
   rule-within p c l (inl e) = rw e l
   rule-within p c l (inr h) =
       let i = in-numbered p (class_at b c).code (λ i. rule c (i + 1)) h in
-      rw i.2 (record { class-known = l; first = omega arith; last = omega (arith, i.1) })
+      rw i.2 (record { class_known = l; first = omega arith; last = omega (arith, i.1) })
 
   within : (p : Place) → In p (places b) → Within b p
   within p h =

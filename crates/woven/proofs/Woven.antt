@@ -164,9 +164,9 @@ module _ (g : Given) (z : refusal_of g ≡ 0) where
       same : class_at x c ≡ class_at b c
       same = class_same b R x A c lc
 
-      of-class : OfClass g x c
+      of_class : OfClass g x c
       unfolding program_of method_at method_of place_of depth_of placed
-      of-class =
+      of_class =
           record {
             numbers = same ∙ laid-class;
             descriptor = λ i h. rw same (code_same b R x A c lc i (rw laid-class (omega arith)) ∙ rw laid-class (descriptor-laid g m c l i h));
@@ -174,7 +174,7 @@ module _ (g : Given) (z : refusal_of g ≡ 0) where
                 rw same (instruction-same b R x A c lc a low (rw laid-class high) ∙ rw laid-class (instruction-laid g m c l a low high));
             kind = λ a s low high h.
                 rw same (kind-same b R x A c lc a low (rw laid-class high) s (rw laid-class h) ∙ kind-laid g m c l laid-class a low high s h);
-            kind-class = λ a s low high h.
+            kind_class = λ a s low high h.
                 rw same (kind-class-same b R x A c lc a low (rw laid-class high) s (rw laid-class h) ∙ kind-class-laid g m c l laid-class a low high s h);
             depth = λ a low high. rw same (depth_same b R x A c lc a low (rw laid-class high) ∙ depth-laid g m c l laid-class a low high);
           }
@@ -186,7 +186,7 @@ module _ (g : Given) (z : refusal_of g ≡ 0) where
         accepted = L.accepted;
         classes = classes-same b R x L.choice.alike ∙ count;
         exception = exception-same b R x L.choice.alike ∙ exception-is m g.exception;
-        class = λ c l. of-class R x L.choice.alike c l;
+        class = λ c l. of_class R x L.choice.alike c l;
       }
 
 -- success of `fill`

@@ -39,7 +39,7 @@ pub record OfClass (g : Given) (x : List ℕ) (c : ℕ) : Type 0 where
       → code_at (class_at x c) (part_of x (class_at x c)) l ≡ code_from (instructions_of g.directory g.instructions c) (4 * (l - 1))
   pub kind : (l s : ℕ) → 1 ≤ l → l ≤ (numbers_at g.directory c).code → s < entries (numbers_at g.directory c)
       → at x (place_of x c l s) ≡ at (kinds_of g.directory g.kinds c) (kind_place (numbers_at g.directory c) l s)
-  pub kind-class : (l s : ℕ) → 1 ≤ l → l ≤ (numbers_at g.directory c).code → s < entries (numbers_at g.directory c)
+  pub kind_class : (l s : ℕ) → 1 ≤ l → l ≤ (numbers_at g.directory c).code → s < entries (numbers_at g.directory c)
       → at x (place_of x c l s + 1) ≡ at (kinds_of g.directory g.kinds c) (kind_place (numbers_at g.directory c) l s + 1)
   pub depth : (l : ℕ) → 1 ≤ l → l ≤ (numbers_at g.directory c).code
       → depth_of x c l ≡ at (depths_of g.directory g.depths c) (l - 1)

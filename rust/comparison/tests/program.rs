@@ -16,7 +16,7 @@ fn line(bundle: &[u8]) -> String {
         .stdin(Stdio::piped())
         .stdout(Stdio::piped())
         .spawn()
-        .unwrap_or_else(|e| panic!("{}: {e}: run `rt check hveitmar` first", program.display()));
+        .unwrap_or_else(|e| panic!("{}: {e}: run `./hveitmar build` first", program.display()));
     let mut input = child.stdin.take().expect("a pipe");
     // It reads no further than it needs to refuse, and a pipe that it has closed takes no more.
     let _ = input.write_all(bundle);

@@ -1,5 +1,5 @@
 /* The proved verifier and machine for C callers: link target/staticlib/libexports.a, which
-   `rt staticlib exports` writes. docs/LAW.md says what the numbers mean.
+   `./hveitmar build` writes. docs/LAW.md says what the numbers mean.
 
    All calls take any bytes, always come to an end and keep nothing. None writes but hveitmar_run and
    hveitmar_take, into the bytes that are lent for it, and hveitmar_fill, into the bundle's pair bytes. */

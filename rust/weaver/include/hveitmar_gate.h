@@ -1,4 +1,4 @@
-/* The proved gate for weavers in C: link target/staticlib/libgate.a, which `rt staticlib gate` writes.
+/* The proved gate for weavers in C: link target/staticlib/libgate.a, which `./hveitmar build` writes.
    docs/LAW.md says what the numbers mean. */
 #ifndef HVEITMAR_GATE_H
 #define HVEITMAR_GATE_H

@@ -17,13 +17,13 @@ pub answer-requires-then-all-gt256 : goal.answer-requires-then-all-gt256
 answer-requires-then-all-gt256 c = grind (arith, past-under)
 
 pub returns-then-all-gt256 : goal.returns-then-all-gt256
-returns-then-all-gt256 c = c.answer-then-all-gt256.ensures ∙ refused-33 _ _ _ _ (record { known = record { unknown = c.first_unknown-u.ensures; none = c.if-u-code.false }; stray = c.first_stray-s.ensures; none = c.if-s-code.false; entry = c.first_stray_entry-e.ensures; no-entry = c.if-e-table.false }) c.total-all.ensures c.if-all-gt256.true (search rules)
+returns-then-all-gt256 c = c.answer-then-all-gt256.ensures ∙ refused-33 _ _ _ _ (record { known = record { unknown = c.first_unknown-u.ensures; none = c.if-u-code.false }; stray = c.first_stray-s.ensures; none = c.if-s-code.false; entry = c.first_stray_entry-e.ensures; no_entry = c.if-e-table.false }) c.total-all.ensures c.if-all-gt256.true (search rules)
 
 pub answer-requires-then-room-all : goal.answer-requires-then-room-all
 answer-requires-then-room-all c = grind (arith, past-under)
 
 pub returns-then-room-all : goal.returns-then-room-all
-returns-then-room-all c = c.answer-then-room-all.ensures ∙ refused-34 _ _ _ _ (record { known = record { unknown = c.first_unknown-u.ensures; none = c.if-u-code.false }; stray = c.first_stray-s.ensures; none = c.if-s-code.false; entry = c.first_stray_entry-e.ensures; no-entry = c.if-e-table.false }) c.total-all.ensures (omega arith) c.if-room-all.true (search rules)
+returns-then-room-all c = c.answer-then-room-all.ensures ∙ refused-34 _ _ _ _ (record { known = record { unknown = c.first_unknown-u.ensures; none = c.if-u-code.false }; stray = c.first_stray-s.ensures; none = c.if-s-code.false; entry = c.first_stray_entry-e.ensures; no_entry = c.if-e-table.false }) c.total-all.ensures (omega arith) c.if-room-all.true (search rules)
 
 pub returns : goal.returns
-returns c = c.answer-2.ensures ∙ took _ _ _ _ (record { known = record { unknown = c.first_unknown-u.ensures; none = c.if-u-code.false }; stray = c.first_stray-s.ensures; none = c.if-s-code.false; entry = c.first_stray_entry-e.ensures; no-entry = c.if-e-table.false }) c.total-all.ensures c.if-all-gt256.false c.if-room-all.false
+returns c = c.answer-2.ensures ∙ took _ _ _ _ (record { known = record { unknown = c.first_unknown-u.ensures; none = c.if-u-code.false }; stray = c.first_stray-s.ensures; none = c.if-s-code.false; entry = c.first_stray_entry-e.ensures; no_entry = c.if-e-table.false }) c.total-all.ensures c.if-all-gt256.false c.if-room-all.false
