@@ -37,9 +37,6 @@ fn refused(v: Verdict) -> Ran
     }
 }
 
-// A step that answers this or less is counted.
-const LAST_COUNTED: u8 = 2;
-
 // The arrays are local, and lent to the steps: nothing of the state is copied before the end.
 fn accepted(b: &[u8], schedule: &[u8], v: Verdict) -> Ran
     requires { (v ≡ verdict_of b.now) × (v.number ≡ 0) }
@@ -69,7 +66,7 @@ fn accepted(b: &[u8], schedule: &[u8], v: Verdict) -> Ran
             &mut fields,
             x,
         );
-        if answer <= LAST_COUNTED {
+        if answer <= 2 {
             steps += 1;
         }
     }

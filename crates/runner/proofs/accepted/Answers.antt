@@ -1,7 +1,6 @@
 use Rattle.runner.proofs.Halfway.{exception-8, begins, counted-in, counted-out, goes_on, arrives, ran-accepted}
 use native.Mathlib.Omega.{arith}
 use Rattle.runner.proofs.accepted.Goals as goal
-use Rattle.runner.proofs.accepted.Goals.{then-answer-le-LAST_COUNTED, else-answer-le-LAST_COUNTED}
 
 pub add-requires : goal.add-requires
 add-requires c = (rw c.exception-c.ensures (exception-8 c.args.b.now (rw (← c.requires.0) c.requires.1)), omega arith)
@@ -15,10 +14,7 @@ turn-answer-requires c = c.loop-n.invariant.running
 pub loop-n-preserved : goal.loop-n-preserved
 loop-n-preserved c =
     goes_on _ _ _ _ _ _ c.loop-n.invariant c.loop-n-test.true _ _ _ c.turn-answer.ensures
-    (elim c.if-answer-le-LAST_COUNTED.branch [
-      | then-answer-le-LAST_COUNTED w ↦ counted-in _ _ _ w.if-answer-le-LAST_COUNTED.true w.steps-is
-      | else-answer-le-LAST_COUNTED w ↦ counted-out _ _ _ w.if-answer-le-LAST_COUNTED.false w.steps-is
-    ])
+    (grind (arith, counted-in, counted-out))
 
 pub returns : goal.returns
 returns c =
