@@ -1,4 +1,3 @@
-use Rattle.std.proofs.Common.{rules}
 use native.Mathlib.Omega.{arith}
 use Rattle.laying.specs.Laid.{head_laid}
 use Rattle.laying.proofs.Over.{each_none, each_more, each-room, each-done}
@@ -6,13 +5,13 @@ use Rattle.laying.proofs.Lengths.{records-upto}
 use Rattle.laying.proofs.lay_directory.Goals as goal
 
 pub loop-c-init : goal.loop-c-init
-loop-c-init c = (search rules, each_none _ _ _)
+loop-c-init c = each_none _ _ _
 
 pub lay_head-q-requires : goal.lay_head-q-requires
-lay_head-q-requires c = (omega arith, omega arith, records-upto c.args.directory.now c.args.n _ _ c.loop-c-test.true c.requires.2, each-room (head_laid c.args.directory.now) _ _ c.args.n _ c.loop-c-test.true c.requires.3 c.loop-c.invariant.1)
+lay_head-q-requires c = (omega arith, omega arith, records-upto c.args.directory.now c.args.n _ _ c.loop-c-test.true c.requires.2, each-room (head_laid c.args.directory.now) _ _ c.args.n _ c.loop-c-test.true c.requires.3 c.loop-c.invariant)
 
 pub loop-c-preserved : goal.loop-c-preserved
-loop-c-preserved c = (search rules, each_more (head_laid c.args.directory.now) _ _ c.args.n _ c.loop-c-test.true c.requires.3 c.loop-c.invariant.1 c.lay_head-q.ensures)
+loop-c-preserved c = each_more (head_laid c.args.directory.now) _ _ c.args.n _ c.loop-c-test.true c.requires.3 c.loop-c.invariant c.lay_head-q.ensures
 
 pub returns : goal.returns
-returns c = each-done (head_laid c.args.directory.now) _ _ c.args.n _ c.loop-c.invariant.0 c.loop-c-test.false c.loop-c.invariant.1
+returns c = each-done (head_laid c.args.directory.now) _ _ c.args.n _ (omega arith) c.loop-c-test.false c.loop-c.invariant

@@ -1,11 +1,7 @@
-use Prim.Native.Nat.{◌≤◌, ◌-◌}
 use Rattle.ground.specs.Lists.{each}
 use Rattle.laying.specs.Laid.{record_of}
 use Rattle.laying.specs.Loops.{Lays}
 use Rattle.laying.proofs.lay_records.Given as goal
 
 abbrev pub invariant-loop-c : goal.invariant-loop-c
-invariant-loop-c l = (l.c ≤ l.n) × Lays l.initial.out 0 (each l.c (record_of l.directory l.descriptors l.instructions l.kinds l.depths)) l.q l.out
-
-abbrev pub decreases-loop-c : goal.decreases-loop-c
-decreases-loop-c l = l.n - l.c
+invariant-loop-c l = Lays l.initial.out 0 (each l.c (record_of l.directory l.descriptors l.instructions l.kinds l.depths)) l.q l.out
