@@ -51,9 +51,7 @@ def with_lemmas(file, text):
         return text
     for word, crates in LEMMAS.items():
         if crates == '*' or any(f'/crates/{it}/' in file for it in crates):
-            imported = word == 'no_end' and '/needs/' in file
-            if not imported or 'entries.proofs.Types' in text:
-                text = re.sub(rf"(?<![\w.'-]){word}(?![\w'-])", f'{word}_lem', text)
+            text = re.sub(rf"(?<![\w.'-]){word}(?![\w'-])", f'{word}_lem', text)
     return text
 
 

@@ -9,8 +9,8 @@ use std::process::{Command, Stdio};
 pub struct Program(PathBuf);
 
 impl Program {
-    /// The program that HVEITMAR_TRACE names, or the one that `./hveitmar
-    /// build` writes; an error says which is missing.
+    /// The program that HVEITMAR_TRACE names, or the one that
+    /// `./hveitmar build` writes; an error says which is missing.
     pub fn find() -> Result<Program, Error> {
         let built = Path::new(env!("CARGO_MANIFEST_DIR")).join("../../target/bin/hveitmar_trace");
         let path = std::env::var_os("HVEITMAR_TRACE").map_or(built, PathBuf::from);
