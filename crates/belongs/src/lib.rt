@@ -14,8 +14,7 @@ use values::Slot;
 fn places_refer(objects: u8, l: [Slot; 16], n: u8) -> bool
     ensures { result ≡ places_refer objects l n }
 {
-    let mut i: u8 = 0;
-    while i < n {
+    for i in 0..n {
         let k = i as usize;
         if 16 <= k {
             return true;
@@ -23,7 +22,6 @@ fn places_refer(objects: u8, l: [Slot; 16], n: u8) -> bool
         if !values::refers(objects, l[k]) {
             return false;
         }
-        i += 1;
     }
     true
 }
@@ -83,12 +81,10 @@ fn objects_ok(b: &[u8], objects: u8, classes: &[u8]) -> bool
         return false;
     }
     let n = bundle::classes(b);
-    let mut o: u8 = 0;
-    while o < objects {
+    for o in 0..objects {
         if n <= ground::byte(classes, o as usize) {
             return false;
         }
-        o += 1;
     }
     true
 }
@@ -97,20 +93,14 @@ fn objects_ok(b: &[u8], objects: u8, classes: &[u8]) -> bool
 fn fields_ok(b: &[u8], objects: u8, classes: &[u8], fields: [Slot; 128]) -> bool
     ensures { result ≡ fields_ok (program_of b.now) objects classes.now fields }
 {
-    let mut o: u8 = 0;
-    while o < objects {
+    for o in 0..objects {
         let n = bundle::class_at(b, ground::byte(classes, o as usize)).fields;
-        let mut f: u8 = 0;
-        while f < n {
+        for f in 0..n {
             let k = (o as usize) * 4 + (f as usize);
-            if k < 128 {
-                if !values::refers(objects, fields[k]) {
-                    return false;
-                }
+            if k < 128 && !values::refers(objects, fields[k]) {
+                return false;
             }
-            f += 1;
         }
-        o += 1;
     }
     true
 }
@@ -136,14 +126,12 @@ fn thread_held_ok(counts: &[u16], objects: u8, live: bool, w: u32, i: u8) -> boo
     ensures { result ≡ thread_held_ok counts.now objects live w i }
 {
     let mut made: u32 = 0;
-    let mut o: u8 = 0;
-    while o < 32 {
+    for o in 0..32 {
         let n = state::count(counts, i, o);
         if !count_ok(objects, live, o, n) {
             return false;
         }
         made = held::mark(made, o, n);
-        o += 1;
     }
     made == w
 }
@@ -153,14 +141,12 @@ fn bits_apart(words: [u32; 8]) -> bool
     ensures { result ≡ bits_apart words }
 {
     let mut taken: u32 = 0;
-    let mut i: usize = 0;
-    while i < 8 {
+    for i in 0..8usize {
         let w = words[i];
         if !held::apart(taken, w) {
             return false;
         }
-        taken = taken | w;
-        i += 1;
+        taken |= w;
     }
     true
 }
@@ -176,8 +162,7 @@ pub fn state_ok(b: &[u8], s: State) -> bool
     if !fields_ok(b, s.objects, &s.classes, fields) {
         return false;
     }
-    let mut i: u8 = 0;
-    while i < 8 {
+    for i in 0..8u8 {
         let k = i as usize;
         let t = s.threads[k];
         let w = s.held[k];
@@ -187,7 +172,6 @@ pub fn state_ok(b: &[u8], s: State) -> bool
         if !thread_held_ok(&s.counts, s.objects, t.live, w, i) {
             return false;
         }
-        i += 1;
     }
     let words = s.held;
     bits_apart(words)

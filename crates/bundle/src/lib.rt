@@ -142,28 +142,51 @@ fn no_code() -> Code
     }
 }
 
-// The four bytes of the instruction at address l.
-pub fn code_at(k: Class, r: &[u8], l: Addr) -> Code
-    ensures { result ≡ code_at k r.now l.0 }
-{
-    if l.0 < 1 {
-        return no_code();
-    }
-    if k.code < l.0 {
-        return no_code();
-    }
-    code_from(r, instruction_place(k, l))
+// A class's record with what reads it: how many classes its bundle has, the directory's numbers of the class, and the record's bytes.
+#[derive(Clone, Copy)]
+pub struct Record<'a> {
+    pub classes: u8,
+    pub class: Class,
+    pub bytes: &'a [u8],
 }
 
-pub fn instruction_at(k: Class, r: &[u8], l: Addr) -> Instruction
-    ensures { result ≡ instruction_at k r.now l.0 }
+pub fn record_at<'a>(b: &'a [u8], c: u8) -> Record<'a>
+    ensures count { result.classes ≡ classes b.now }
+    ensures numbers { result.class ≡ class_at b.now c }
+    ensures bytes { result.bytes.now ≡ part_of b.now (class_at b.now c) }
 {
-    instructions::instruction_of(code_at(k, r, l))
+    let class = class_at(b, c);
+    Record {
+        classes: classes(b),
+        class,
+        bytes: part_of(b, class),
+    }
 }
 
-// The descriptor of field i.
-pub fn field_at(k: Class, r: &[u8], i: u8) -> u8
-    ensures { result ≡ field_at k r.now i }
-{
-    ground::byte(r, k.args as usize + i as usize)
+impl<'a> Record<'a> {
+    // The four bytes of the instruction at address l.
+    pub fn code_at(&self, l: Addr) -> Code
+        ensures { result ≡ code_at self.now.class self.now.bytes.now l.0 }
+    {
+        if l.0 < 1 {
+            return no_code();
+        }
+        if self.class.code < l.0 {
+            return no_code();
+        }
+        code_from(self.bytes, instruction_place(self.class, l))
+    }
+
+    pub fn instruction_at(&self, l: Addr) -> Instruction
+        ensures { result ≡ instruction_at self.now.class self.now.bytes.now l.0 }
+    {
+        instructions::instruction_of(self.code_at(l))
+    }
+
+    // The descriptor of field i.
+    pub fn field_at(&self, i: u8) -> u8
+        ensures { result ≡ field_at self.now.class self.now.bytes.now i }
+    {
+        ground::byte(self.bytes, self.class.args as usize + i as usize)
+    }
 }

@@ -1,7 +1,7 @@
 -- Document 01, cases on both sides, those marked P: what is asked, and what the document answers.
 use Rattle.std.specs.Prelude.{List, [], ◌∷◌, ◌++◌, Bool, true, false, ℕ, ℤ, pos, negsuc}
-use Rattle.structure.specs.declared.Verdict.{Verdict}
-use Rattle.structure.specs.Verdicts.{verdict, rule_fails}
+use Rattle.verdicts.specs.declared.Verdict.{Verdict}
+use Rattle.verdicts.specs.Verdicts.{verdict, rule_fails}
 use Rattle.entries.specs.Entries.{Entry, Int, Ref, Blank}
 use Rattle.rows.specs.Rows.{Row}
 use Rattle.rules.specs.Rule.{rule_holds}

@@ -19,7 +19,7 @@ use Rattle.instructions.proofs.Table.{InstructionFits}
 use Rattle.bundle.specs.declared.Class.{Class}
 use Rattle.bundle.specs.Container.{classes, class_at, fields_of, descriptor_count, record_fits, part_of, code_at, instruction_at, field_at}
 use Rattle.bundle.specs.Program.{Address, method_of, method_at, program_of}
-use Rattle.structure.specs.Verdicts.{verdict}
+use Rattle.verdicts.specs.Verdicts.{verdict}
 use Rattle.structure.specs.Conditions.{length_ok, trailer_ok, directory_ok, descriptor_ok, descriptors_ok, address_ok}
 use Rattle.structure.specs.Places as structure
 use Rattle.structure.proofs.FirstBroken.{structure-zero}
@@ -35,7 +35,7 @@ use Rattle.verifier.specs.Verdict.{verdict_of}
 use Rattle.verifier.specs.Places.{Place, structural, form, first, rule, Within, holds}
 use Rattle.verifier.proofs.FirstBroken.{verdict-zero, zero-verdict}
 use Rattle.shape.specs.Apart.{Readable}
-use Rattle.shape.proofs.Readable.{good, bundle-long, extent}
+use Rattle.shape.proofs.Readable.{good, bundle-long}
 use Rattle.needs.specs.declared.Pair.{Pair}
 use Rattle.needs.specs.Needs.{var_need, stack_need}
 use Rattle.needs.specs.Exactly.{Under, UnderRow, Has, AllHave}

@@ -11,7 +11,7 @@ use Rattle.ground.specs.Bytes.{at}
 use Rattle.ground.proofs.Bools.{and-fst}
 use Rattle.bundle.specs.declared.Class.{Class}
 use Rattle.bundle.specs.Container.{classes, class_at}
-use Rattle.structure.specs.declared.Verdict.{Verdict}
+use Rattle.verdicts.specs.declared.Verdict.{Verdict}
 use Rattle.entries.specs.Entries.{Entry, Ref, entry_of, is_reference}
 use Rattle.entries.proofs.Types.{reference-bytes}
 use Rattle.shape.specs.PairBytes.{place_of, depth_of, InUse, Reference}

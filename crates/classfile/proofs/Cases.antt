@@ -16,7 +16,7 @@ use Rattle.offsets.specs.Offsets.{left_at, begins, gives_at, count_to, total}
 use Rattle.offsets.specs.Handlers.{handler_of, covers, covered_by}
 use Rattle.offsets.specs.Targets.{target_of, lands, stray_at, first_stray, stray_entry, first_stray_entry}
 use Rattle.offsets.specs.Offenders.{unknown_at, first_unknown, past_at, first_past}
-use Rattle.classfile.specs.declared.Taken.{Taken}
+use Rattle.classfile.specs.Taking.{Taken}
 use Rattle.classfile.specs.Attribute.{table_end, whole, code_of, table_of}
 use Rattle.classfile.specs.Written.{handler_by, rows_of, rows_at, rows_to, bytes_of, laid_over}
 use Rattle.classfile.specs.Taking.{judged, taken_of, bytes_taken, left, out_of}

@@ -16,7 +16,7 @@ use Rattle.java.specs.Instructions.{raw_at, raw_size, uncut, java_at, size_at}
 use Rattle.offsets.specs.Offsets.{left_at, begins, gives_at, count_to, total}
 use Rattle.offsets.specs.Targets.{stray_at, first_stray, first_stray_entry}
 use Rattle.offsets.specs.Offenders.{unknown_at, first_unknown, past_at, first_past}
-use Rattle.classfile.specs.declared.Taken.{Taken}
+use Rattle.classfile.specs.Taking.{Taken}
 use Rattle.classfile.specs.Attribute.{table_end, whole, code_of, table_of}
 use Rattle.classfile.specs.Taking.{taken, judged, taken_of}
 use Rattle.classfile.specs.Cases.{Many, constants, manies}

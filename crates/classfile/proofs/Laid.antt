@@ -10,14 +10,19 @@ use lib.Seq.{take-append_seam, drop-append-add, drop-drop, length-take-le, sets-
 use Rattle.ground.specs.Bounded.{sum_below}
 use Rattle.ground.specs.Lists.{each}
 use Rattle.instructions.specs.declared.Code.{Code}
+use Rattle.std.specs.Prelude.{Some, None}
 use Rattle.java.specs.declared.Java.{Java}
+use Rattle.java.specs.declared.steps.Placed.{Placed}
+use Rattle.java.specs.declared.steps.Steps.{Steps}
+use Rattle.java.specs.Walks.{WalksOn}
+use Rattle.java.proofs.Walks.{walk-some, walk-none}
 use Rattle.java.specs.declared.Java.TheVariants.{Nop, Pop, Iconst0, Load, Store, Ifne, Enter, Exit, New, Athrow, Return, Iinc, Other}
 use Rattle.java.specs.Instructions.{java_at, size_at, gives_of}
 use Rattle.java.proofs.Sizes.{size-pos}
 use Rattle.offsets.specs.Offsets.{begins, gives_at, count_to, total}
-use Rattle.offsets.specs.Index.{Stands}
-use Rattle.offsets.proofs.Offsets.{begins-inside, count_next, count_under}
-use Rattle.offsets.proofs.Turns.{stands-first, stands-turn}
+use Rattle.offsets.proofs.Offsets.{begins-inside, count_under}
+use Rattle.offsets.proofs.Turns.{Counted, counted-first, counted-next}
+use Rattle.classfile.proofs.Starts.{turn-under}
 use Rattle.classfile.specs.Written.{row, rows_of, rows_at, rows_to, row_bytes, bytes_of, laid_over, laid_at}
 
 -- ---- lists
@@ -201,39 +206,40 @@ module _ (classes code table : List ℕ) where
   bytes-to : (p : ℕ) → length (bytes_of (rows_to classes code table p)) ≡ 4 * count_to code p
   bytes-to p = bytes-length (rows_to classes code table p) ∙ ap (λ (n : ℕ). 4 * n) (count-in-rows p)
 
-  pub record Wrote (start out : List ℕ) (p k : ℕ) : Type 0 where
-    pub counted : Stands code p k
-    pub laid : out ≡ laid_over (bytes_of (rows_to classes code table p)) start
+  pub record Wrote (start out : List ℕ) (s : Steps) (k : ℕ) : Type 0 where
+    pub counted : Counted code s k
+    pub laid : out ≡ laid_over (bytes_of (rows_to classes code table s.at)) start
 
-  pub wrote-start : (start : List ℕ) → Wrote start start 0 0
+  pub wrote-start : (start : List ℕ) {s u : Steps} → s ≡ u → (u.code.now ≡ code) × (u.at ≡ 0) → Wrote start start s 0
   unfolding bytes_of rows_to each laid_over
-  wrote-start start = record { counted = stands-first code; laid = refl }
+  wrote-start start d e = record { counted = counted-first code d e; laid = rw (d, e.1) }
+
+  pub wrote-here : {start out : List ℕ} {s t : Steps} {x : Placed} {k : ℕ} → Wrote start out s k → WalksOn s (Some x) t → (x.at < length code) × (x.size ≡ size_at code x.at)
+  wrote-here h w = let v = walk-some h.counted.code_is w in rw v.1.1 (v.1.0, v.1.3)
 
   -- there is room for the rows of the next instruction
-  pub wrote-room : {start out : List ℕ} {p k all : ℕ} {j : Java} → Wrote start out p k → p < length code → j ≡ java_at code p → all ≡ total code → k + gives_of j ≤ all
-  wrote-room {start} {out} {p} {k} {all} {j} h l e a =
-      let n = count_next code p (p + size_at code p) h.counted.here (omega (arith, size-pos code p)) (omega arith) in
-      let d : gives_of j ≡ gives_of (java_at code p) = ap gives_of e in
-      omega (arith, h.counted.count, count_under code (p + size_at code p))
+  pub wrote-room : {start out : List ℕ} {s t : Steps} {x : Placed} {k all : ℕ} → Wrote start out s k → WalksOn s (Some x) t → all ≡ total code → k + gives_of x.java ≤ all
+  wrote-room h w a = rw a (turn-under code h.counted w refl)
 
-  pub wrote-length : {start out : List ℕ} {p k all : ℕ} → Wrote start out p k → all ≡ total code → 4 * all ≤ length start → length out ≡ length start
-  wrote-length {start} {out} {p} h a r =
-      ap length h.laid ∙ laid-length (bytes_of (rows_to classes code table p)) start (omega (arith, bytes-to p, count_under code p))
+  pub wrote-length : {start out : List ℕ} {s : Steps} {k all : ℕ} → Wrote start out s k → all ≡ total code → 4 * all ≤ length start → length out ≡ length start
+  wrote-length {start} {out} {s} h a r =
+      ap length h.laid ∙ laid-length (bytes_of (rows_to classes code table s.at)) start (omega (arith, bytes-to s.at, count_under code s.at))
 
-  pub wrote-turn : {start out next : List ℕ} {p k g size : ℕ} {j : Java} → Wrote start out p k → p < length code → j ≡ java_at code p
-      → next ≡ laid_at (4 * k) (bytes_of (rows_of classes code table p j)) out → g ≡ gives_of j → size ≡ size_at code p
-      → Wrote start next (p + size) (k + g)
-  wrote-turn {start} {out} {next} {p} {k} {g} {size} {j} h l e f d s =
+  pub wrote-turn : {start out next : List ℕ} {s t : Steps} {x : Placed} {k g : ℕ} → Wrote start out s k → WalksOn s (Some x) t
+      → next ≡ laid_at (4 * k) (bytes_of (rows_of classes code table x.at x.java)) out → g ≡ gives_of x.java → Wrote start next t (k + g)
+  wrote-turn {start} {out} {next} {s} {t} {x} {k} h w f d =
+      let v = walk-some h.counted.code_is w in
       record {
-        counted = stands-turn code h.counted l e d s;
+        counted = counted-next code h.counted w d;
         laid =
-            rw (s, rows_next p h.counted.here, bytes-append)
-            (f ∙ rw (h.laid, e) (laid_on (4 * k) (bytes_of (rows_to classes code table p)) (bytes_of (rows_of classes code table p (java_at code p))) start (rw (bytes-to p, h.counted.count))));
+            rw (v.1.4, rows_next s.at h.counted.stands.here, bytes-append)
+            (f ∙ rw (v.1.1, v.1.2, h.laid) (laid_on (4 * k) (bytes_of (rows_to classes code table s.at)) (bytes_of (rows_of classes code table s.at (java_at code s.at))) start (rw (bytes-to s.at, h.counted.stands.count))));
       }
 
-  pub wrote-end : {start out : List ℕ} {p k : ℕ} → Wrote start out p k → length code ≤ p → out ≡ laid_over (bytes_of (rows_to classes code table (length code))) start
-  wrote-end {start} {out} {p} h l =
-      let e : p ≡ length code = omega (arith, h.counted.inside) in
+  pub wrote-end : {start out : List ℕ} {s t : Steps} {k : ℕ} → Wrote start out s k → WalksOn s None t → out ≡ laid_over (bytes_of (rows_to classes code table (length code))) start
+  wrote-end {start} {out} {s} h w =
+      let l = walk-none h.counted.code_is w in
+      let e : s.at ≡ length code = omega (arith, h.counted.stands.inside) in
       h.laid ∙ ap (λ (q : ℕ). laid_over (bytes_of (rows_to classes code table q)) start) e
 
 pub gives-three : (j : Java) {n : ℕ} → n ≡ gives_of j → (n ≡ 0 → ⊥) → (n ≡ 1 → ⊥) → gives_of j ≡ 3

@@ -19,7 +19,7 @@ use Rattle.offsets.specs.Handlers.{entries, handler_of}
 use Rattle.offsets.specs.Targets.{lands, branch_ok, stray_at, first_stray, stray_entry, first_stray_entry}
 use Rattle.offsets.specs.Offenders.{unknown_at, first_unknown, past_at, first_past}
 use Rattle.offsets.proofs.Offsets.{begins-first, begins-next, count-zero}
-use Rattle.classfile.specs.declared.Taken.{Taken}
+use Rattle.classfile.specs.Taking.{Taken}
 use Rattle.classfile.specs.Attribute.{whole, code_of, table_of}
 use Rattle.classfile.specs.Taking.{taken, judged, taken_of}
 use Rattle.classfile.specs.Meaning.{Reached, start, next, First, AllKnown, AllLand, AllCaught, Walks, Names, Succeeds, Named, ended, unknown, branch, handler, many, short, done}

@@ -12,13 +12,17 @@ use Rattle.ground.specs.Bytes.{at}
 use Rattle.ground.specs.Bounded.{first_below, fill_from}
 use Rattle.ground.proofs.Bounded.{first-at, first-none}
 use Rattle.ground.proofs.Writes.{fill-in, fill-out}
-use Rattle.java.specs.declared.Java.{Java}
+use Rattle.std.specs.Prelude.{Some}
+use Rattle.java.specs.declared.steps.Placed.{Placed}
+use Rattle.java.specs.declared.steps.Steps.{Steps}
+use Rattle.java.specs.Walks.{Goes, WalksOn}
 use Rattle.java.specs.Instructions.{java_at, size_at, gives_of}
-use Rattle.java.proofs.Sizes.{size-pos, size_fits}
+use Rattle.java.proofs.Sizes.{size-pos}
+use Rattle.java.proofs.Walks.{walk-some}
 use Rattle.offsets.specs.Offsets.{count_to, total, address_of}
 use Rattle.offsets.specs.Handlers.{handler_of, covered_by}
-use Rattle.offsets.specs.Index.{Stands}
 use Rattle.offsets.proofs.Offsets.{count_next, count-grows, count_under}
+use Rattle.offsets.proofs.Turns.{Counted}
 use Rattle.classfile.specs.Written.{row, handler_by, handler_for}
 use Rattle.classfile.specs.Starts.{Starts, address_by}
 
@@ -27,29 +31,33 @@ module _ (code : List ℕ) where
   starts_none starts = record { each = λ k l. absurd (omega arith) }
 
   -- the rows of the next instruction
-  pub starts-turn : {starts next : List ℕ} {p k n : ℕ} {j : Java} → Stands code p k → Starts code starts k → j ≡ java_at code p → n ≡ gives_of j → k + n ≤ length starts
-      → next ≡ fill_from k n p starts → Starts code next (k + n)
-  starts-turn {starts} {next} {p} {k} {n} {j} s h e f l d = record { each = λ i m. go i m (dec_lt i k) }
+  pub starts-turn : {starts next : List ℕ} {s t : Steps} {x : Placed} {k n : ℕ} → Counted code s k → Starts code starts k → WalksOn s (Some x) t → n ≡ gives_of x.java
+      → k + n ≤ length starts → next ≡ fill_from k n x.at starts → Starts code next (k + n)
+  starts-turn {starts} {next} {s} {t} {x} {k} {n} q h w f l d = record { each = λ i m. go i m (dec_lt i k) }
     where
-      c : count_to code (p + 1) ≡ count_to code p + gives_of (java_at code p)
-      c = count_next code p (p + 1) s.here (omega arith) (omega (arith, size-pos code p))
+      v : (t.code.now ≡ code) × Goes code s.at x t.at
+      v = walk-some q.code_is w
 
-      g : n ≡ gives_of (java_at code p)
-      g = f ∙ ap gives_of e
+      c : count_to code (s.at + 1) ≡ count_to code s.at + gives_of (java_at code s.at)
+      c = count_next code s.at (s.at + 1) q.stands.here (omega arith) (omega (arith, size-pos code s.at))
 
-      here : (i : ℕ) → k ≤ i → i < k + n → (count_to code p ≤ i) × (i < count_to code (p + 1))
-      here i a b = (omega (arith, s.count), omega (arith, s.count, c, g))
+      g : n ≡ gives_of (java_at code s.at)
+      g = f ∙ ap gives_of v.1.2
+
+      here : (i : ℕ) → k ≤ i → i < k + n → (count_to code s.at ≤ i) × (i < count_to code (s.at + 1))
+      here i a b = (omega (arith, q.stands.count), omega (arith, q.stands.count, c, g))
 
       go : (i : ℕ) → i < k + n → Dec (i < k) → (count_to code (at next i) ≤ i) × (i < count_to code (at next i + 1))
-      go i m (yes a) = rw (d, fill-out k p starts n i 0 (λ b. absurd (omega arith))) (h.each i a)
-      go i m (no a) = rw (d, fill-in k p starts n i 0 (omega arith) m l) (here i (omega arith) m)
+      go i m (yes a) = rw (d, fill-out k x.at starts n i 0 (λ b. absurd (omega arith))) (h.each i a)
+      go i m (no a) = rw (d, fill-in k x.at starts n i 0 (omega arith) m l, v.1.1) (here i (omega arith) m)
 
   -- there is room for them
-  pub turn-under : {p k n : ℕ} {j : Java} → Stands code p k → j ≡ java_at code p → n ≡ gives_of j → k + n ≤ total code
-  turn-under {p} {k} {n} s e f =
-      let c = count_next code p (p + 1) s.here (omega arith) (omega (arith, size-pos code p)) in
-      let g : n ≡ gives_of (java_at code p) = f ∙ ap gives_of e in
-      omega (arith, s.count, count_under code (p + 1))
+  pub turn-under : {s t : Steps} {x : Placed} {k n : ℕ} → Counted code s k → WalksOn s (Some x) t → n ≡ gives_of x.java → k + n ≤ total code
+  turn-under {s} q w f =
+      let v = walk-some q.code_is w in
+      let c = count_next code s.at (s.at + 1) q.stands.here (omega arith) (omega (arith, size-pos code s.at)) in
+      let g = f ∙ ap gives_of v.1.2 in
+      omega (arith, q.stands.count, count_under code (s.at + 1))
 
   -- THEOREM: the address found among them is the offset's
   module _ (starts : List ℕ) (h : Starts code starts (total code)) (t : ℕ) where
@@ -96,9 +104,6 @@ module _ (code : List ℕ) where
   -- a pair's last byte
   pub last_byte : (p : ℕ) {size : ℕ} → size ≡ size_at code p → p + size - 1 ≡ p + size_at code p - 1
   last_byte p e = rw e
-
-  pub size-within : (p : ℕ) {size : ℕ} → size ≡ size_at code p → p < length code → (p + size ≤ length code) × (1 ≤ size)
-  size-within p s l = rw s (size_fits code p l, size-pos code p)
 
 pub same_row : (opcode : ℕ) {x y a b : ℕ} → x ≡ y → a ≡ b → row opcode x a ≡ row opcode y b
 same_row opcode e f = rw (e, f)

@@ -1,7 +1,7 @@
 -- Attributes with what they give, worked out by hand from document 02's sentences.
 use Rattle.std.specs.Prelude.{◌≡◌, List, [], ◌∷◌, ◌++◌, map, ℕ, zero, suc, ◌/◌, ◌%◌, ◌<◌, length, replicate, drop}
 use Rattle.offsets.specs.Targets.{target_of}
-use Rattle.classfile.specs.declared.Taken.{Taken}
+use Rattle.classfile.specs.Taking.{Taken}
 use Rattle.classfile.specs.Taking.{taken}
 
 -- an attribute of this code and this exception table

@@ -7,7 +7,7 @@ use Rattle.offsets.specs.Offsets.{begins, total}
 use Rattle.offsets.specs.Handlers.{entries, handler_of}
 use Rattle.offsets.specs.Targets.{lands, branch_ok, stray_at, stray_entry}
 use Rattle.offsets.specs.Offenders.{unknown_at, past_at}
-use Rattle.classfile.specs.declared.Taken.{Taken}
+use Rattle.classfile.specs.Taking.{Taken}
 use Rattle.classfile.specs.Taking.{taken, taken_of}
 
 -- an instruction begins at offset 0, and right behind one that begins

@@ -1,13 +1,19 @@
 -- Document 02, Q-9: refusals 30 to 34, checked in this order, with the first offender's offset in the code; 0 with the number of instructions written.
-use Rattle.std.specs.Prelude.{cond, List, ℕ, ◌/◌, length, leb, eqb}
+use Rattle.std.specs.Prelude.{cond, List, ℕ, ◌/◌, length, leb, eqb, Result, Ok, Err}
 use Rattle.ground.specs.Chain.{refuse}
 use Rattle.offsets.specs.Offsets.{total}
 use Rattle.offsets.specs.Handlers.{entries, handler_of}
 use Rattle.offsets.specs.Targets.{first_stray, first_stray_entry}
 use Rattle.offsets.specs.Offenders.{first_unknown, first_past}
-use Rattle.classfile.specs.declared.Taken.{Taken}
+use Rattle.classfile.specs.declared.Untaken.{Untaken}
+use Rattle.classfile.specs.declared.Untaken.TheVariants.{Cut, Unknown, Stray, Long, Room}
 use Rattle.classfile.specs.Attribute.{whole, code_of, table_of}
 use Rattle.classfile.specs.Written.{rows_to, bytes_of, laid_over}
+
+-- 0 and the number of instructions written, or a refusal and its offset in the code
+pub record Taken : Type 0 where
+  pub number : ℕ
+  pub offset : ℕ
 
 abbrev pub taken : ℕ → ℕ → Taken
 taken number offset = record { number = number; offset = offset }
@@ -41,3 +47,12 @@ left answer bytes out = cond (eqb answer.number 0) (laid_over bytes out) out
 
 unfoldable pub out_of : List ℕ → List ℕ → List ℕ → List ℕ
 out_of a classes out = left (taken_of a classes (length out)) (bytes_taken classes (code_of a) (table_of a)) out
+
+-- the same as the code tells it
+abbrev pub taken_in : Result ℕ Untaken → Taken
+taken_in (Ok n) = taken 0 n
+taken_in (Err Cut) = taken 30 0
+taken_in (Err (Unknown p)) = taken 31 p
+taken_in (Err (Stray p)) = taken 32 p
+taken_in (Err (Long p)) = taken 33 p
+taken_in (Err (Room p)) = taken 34 p

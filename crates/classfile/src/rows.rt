@@ -3,12 +3,22 @@ ghost use Rattle.std.specs.Prelude.{◌≡◌, ◌+◌, ◌*◌, ◌≤◌, ◌<
 ghost use Rattle.ground.specs.Bounded.{fill_from};
 ghost use Rattle.java.specs.Instructions.{size_at, gives_of};
 ghost use Rattle.offsets.specs.Offsets.{total};
-ghost use Rattle.classfile.specs.Starts.{Starts, address_by};
+ghost use Rattle.classfile.specs.Starts.{Starts, Prepared, address_by};
 ghost use Rattle.classfile.specs.Written.{row, handler_by, rows_of, row_bytes, bytes_of, laid_at, laid_over};
 ghost use Rattle.classfile.specs.Taking.{bytes_taken};
 
 use instructions::Code;
-use java::Java;
+use java::{Java, Placed};
+
+// What the rows are made of; of each of the `all` rows, the offset of the instruction that it is written for.
+#[derive(Clone, Copy)]
+struct Method<'a> {
+    classes: &'a [u8],
+    code: &'a [u8],
+    table: &'a [u8],
+    starts: &'a [usize],
+    all: usize,
+}
 
 // n rows from row k on come from offset p.
 fn mark(starts: &mut [usize], k: usize, n: usize, p: usize)
@@ -24,41 +34,34 @@ fn find_starts(code: &[u8], starts: &mut [usize])
     requires { total code.now ≤ length starts.old }
     ensures { Starts code.now starts.new (total code.now) }
 {
-    let mut p = 0;
     let mut k = 0;
-    while p < code.len() {
-        let r = java::read_at(code, p);
-        let j = r.java;
-        let n = java::gives(j);
-        mark(starts, k, n, p);
+    for x in java::walk(code) {
+        let n = java::gives(x.java);
+        mark(starts, k, n, x.at);
         k += n;
-        p += r.size;
     }
 }
 
-fn address(starts: &[usize], all: usize, t: usize) -> u16
-    requires { (all ≤ 256) × (all ≤ length starts.now) }
-    ensures { result ≡ address_by starts.now all t }
+fn address(m: &Method, t: usize) -> u16
+    requires { (m.now.all ≤ 256) × (m.now.all ≤ length m.now.starts.now) }
+    ensures { result ≡ address_by m.now.starts.now m.now.all t }
 {
-    let mut k = 0;
-    while k < all {
-        if t <= starts[k] {
+    for k in 0..m.all {
+        if t <= m.starts[k] {
             return (k + 1) as u16;
         }
-        k += 1;
     }
-    (k + 1) as u16
+    (m.all + 1) as u16
 }
 
-fn handler_for(starts: &[usize], all: usize, table: &[u8], offset: usize) -> u16
-    requires { (all ≤ 256) × (all ≤ length starts.now) }
-    ensures { result ≡ handler_by (address_by starts.now all) table.now offset }
+fn handler_for(m: &Method, offset: usize) -> u16
+    requires { (m.now.all ≤ 256) × (m.now.all ≤ length m.now.starts.now) }
+    ensures { result ≡ handler_by (address_by m.now.starts.now m.now.all) m.now.table.now offset }
 {
-    let i = offsets::covered_by(table, offset);
-    if i < table.len() / 8 {
-        return address(starts, all, offsets::handler_at(table, i) as usize);
+    match offsets::covered_by(m.table, offset) {
+        Some(i) => address(m, offsets::handler_at(m.table, i) as usize),
+        None => 0,
     }
-    0
 }
 
 fn row(opcode: u8, operand: u8, address: u16) -> Code
@@ -71,38 +74,28 @@ fn row(opcode: u8, operand: u8, address: u16) -> Code
     }
 }
 
-// The row written for the instruction at p, the first of them for an iinc.
-fn row_of(
-    classes: &[u8],
-    code: &[u8],
-    starts: &[usize],
-    all: usize,
-    table: &[u8],
-    p: usize,
-    size: usize,
-    j: Java,
-) -> Code
-    requires { Starts code.now starts.now all × (all ≡ total code.now) × (all ≤ 256) × (all ≤ length starts.now) × (p < length code.now) × (size ≡ size_at code.now p) }
-    ensures { result ≡ get_or (rows_of classes.now code.now table.now p j) 0 (row 0 0 0) }
+// The row written for an instruction, the first of them for an iinc.
+#[tactic(auto, unfolding(crate::specs::Written::rows_of))]
+fn row_of(m: &Method, x: Placed) -> Code
+    requires { Prepared m.now × (x.at < length m.now.code.now) × (x.size ≡ size_at m.now.code.now x.at) }
+    ensures { result ≡ get_or (rows_of m.now.classes.now m.now.code.now m.now.table.now x.at x.java) 0 (row 0 0 0) }
 {
-    match j {
-        Java::Nop => row(0, 0, 0),
+    match x.java {
+        Java::Nop | Java::Other => row(0, 0, 0),
         Java::Pop => row(2, 0, 0),
         Java::Iconst0 => row(3, 0, 0),
-        Java::Load(v) => row(4, v, 0),
+        Java::Load(v) | Java::Iinc(v) => row(4, v, 0),
         Java::Store(v) => row(5, v, 0),
-        Java::Ifne(d) => row(6, 0, address(starts, all, offsets::target(code, p, d))),
-        Java::Enter(v) => row(7, v, handler_for(starts, all, table, p + size - 1)),
+        Java::Ifne(d) => row(6, 0, address(m, offsets::target(m.code, x.at, d))),
+        Java::Enter(v) => row(7, v, handler_for(m, x.at + x.size - 1)),
         Java::Exit(v) => row(8, v, 0),
         Java::New(i) => row(
             9,
-            java::class_number(classes, i),
-            handler_for(starts, all, table, p),
+            java::class_number(m.classes, i).unwrap_or(8),
+            handler_for(m, x.at),
         ),
-        Java::Athrow => row(11, 0, handler_for(starts, all, table, p)),
+        Java::Athrow => row(11, 0, handler_for(m, x.at)),
         Java::Return => row(12, 0, 0),
-        Java::Iinc(v) => row(4, v, 0),
-        Java::Other => row(0, 0, 0),
     }
 }
 
@@ -117,48 +110,32 @@ fn put(out: &mut [u8], k: usize, x: Code)
     out[4 * k + 3] = (a % 256) as u8;
 }
 
-// The rows of the instruction at p, from row k of the buffer on.
-fn put_rows(
-    classes: &[u8],
-    code: &[u8],
-    starts: &[usize],
-    all: usize,
-    table: &[u8],
-    p: usize,
-    size: usize,
-    k: usize,
-    j: Java,
-    out: &mut [u8],
-)
-    requires { Starts code.now starts.now all × (all ≡ total code.now) × (all ≤ 256) × (all ≤ length starts.now) × (p < length code.now) × (size ≡ size_at code.now p) × (k + gives_of j ≤ all) × (4 * all ≤ length out.old) }
-    ensures { out.new ≡ laid_at (4 * k) (bytes_of (rows_of classes.now code.now table.now p j)) out.old }
+// The rows of an instruction, from row k of the buffer on.
+fn put_rows(m: &Method, x: Placed, k: usize, out: &mut [u8])
+    requires { Prepared m.now × (x.at < length m.now.code.now) × (x.size ≡ size_at m.now.code.now x.at) × (k + gives_of x.java ≤ m.now.all) × (4 * m.now.all ≤ length out.old) }
+    ensures { out.new ≡ laid_at (4 * k) (bytes_of (rows_of m.now.classes.now m.now.code.now m.now.table.now x.at x.java)) out.old }
 {
-    let n = java::gives(j);
+    let n = java::gives(x.java);
     if n == 0 {
         return;
     }
-    let x = row_of(classes, code, starts, all, table, p, size, j);
-    put(out, k, x);
+    let first = row_of(m, x);
+    put(out, k, first);
     if n == 1 {
         return;
     }
     put(out, k + 1, row(1, 0, 0));
-    put(out, k + 2, row(5, x.operand, 0));
+    put(out, k + 2, row(5, first.operand, 0));
 }
 
-fn put_all(classes: &[u8], code: &[u8], starts: &[usize], all: usize, table: &[u8], out: &mut [u8])
-    requires { Starts code.now starts.now all × (all ≡ total code.now) × (all ≤ 256) × (all ≤ length starts.now) × (4 * all ≤ length out.old) }
-    ensures { out.new ≡ laid_over (bytes_taken classes.now code.now table.now) out.old }
+fn put_all(m: &Method, out: &mut [u8])
+    requires { Prepared m.now × (4 * m.now.all ≤ length out.old) }
+    ensures { out.new ≡ laid_over (bytes_taken m.now.classes.now m.now.code.now m.now.table.now) out.old }
 {
-    let mut p = 0;
     let mut k = 0;
-    while p < code.len() {
-        let r = java::read_at(code, p);
-        let j = r.java;
-        let size = r.size;
-        put_rows(classes, code, starts, all, table, p, size, k, j, out);
-        k += java::gives(j);
-        p += size;
+    for x in java::walk(m.code) {
+        put_rows(m, x, k, out);
+        k += java::gives(x.java);
     }
 }
 
@@ -167,8 +144,14 @@ pub(crate) fn write(classes: &[u8], code: &[u8], table: &[u8], out: &mut [u8])
     requires { (total code.now ≤ 256) × (4 * total code.now ≤ length out.old) }
     ensures { out.new ≡ laid_over (bytes_taken classes.now code.now table.now) out.old }
 {
-    let all = offsets::total(code);
     let mut starts = [0usize; 256];
     find_starts(code, &mut starts);
-    put_all(classes, code, &starts, all, table, out);
+    let m = Method {
+        classes: classes,
+        code: code,
+        table: table,
+        starts: &starts,
+        all: offsets::total(code),
+    };
+    put_all(&m, out);
 }

@@ -7,7 +7,7 @@ use borrow.Author.Tests.{eqb-true, eqb-false, eq-eqb, ne_eqb, le-leb}
 use native.Mathlib.Omega.{arith}
 use Rattle.ground.specs.Chain.{refuse}
 use Rattle.ground.proofs.Bools.{never}
-use Rattle.entries.specs.Entries.{Entry, Int, Top, Ref, Nullable, Blank, Malformed, zeros, pair_ok, nullable_ok, entry_of, kind_of, class_of, dip_of, end_of, is_int, is_top, is_blank, is_reference, is_nullable, is_type, may_be_of, no_end}
+use Rattle.entries.specs.Entries.{Entry, Int, Top, Ref, Nullable, Blank, Malformed, zeros, pair_ok, nullable_ok, entry_of, class_of, dip_of, end_of, is_int, is_top, is_blank, is_reference, is_nullable, is_type, may_be_of, no_end}
 use Rattle.entries.specs.Fits.{takes, Want, compare, want}
 
 -- of a test of the bytes: that it holds for each kind is that it holds for all
@@ -134,14 +134,6 @@ module _ (n c d e : ℕ) where
       (λ kind p0 p1 p2 p3 p4 h. never (rw (p0, p1, p2, p3, p4) at h) refl)
 
 -- ---- the other entries
-pub no-class : (x : Entry) → (is_reference x || is_nullable x) ≡ false → 0 ≡ class_of x
-no-class Int h = refl
-no-class Top h = refl
-no-class (Ref c d e) h = never refl h
-no-class (Nullable c) h = never refl h
-no-class Blank h = refl
-no-class Malformed h = refl
-
 pub no-dip : (x : Entry) → is_reference x ≡ false → 0 ≡ dip_of x
 no-dip Int h = refl
 no-dip Top h = refl
@@ -158,15 +150,6 @@ no_end_lem (Nullable c) h = refl
 no_end_lem Blank h = refl
 no_end_lem Malformed h = refl
 
--- the kind by one test after another
-pub kind-told : (x : Entry) → cond (is_reference x) 3 (cond (is_int x) 1 (cond (is_top x) 2 (cond (is_nullable x) 4 (cond (is_blank x) 0 5)))) ≡ kind_of x
-kind-told Int = refl
-kind-told Top = refl
-kind-told (Ref c d e) = refl
-kind-told (Nullable c) = refl
-kind-told Blank = refl
-kind-told Malformed = refl
-
 -- a type by its kinds
 pub type-told : (x : Entry) → (((is_int x || is_top x) || is_reference x) || is_nullable x) ≡ is_type x
 type-told Int = refl
@@ -177,7 +160,7 @@ type-told Blank = refl
 type-told Malformed = refl
 
 -- ---- what Int, and a class with (0,0), come to
-pub int-compared : (y : Entry) → cond (is_int y || is_top y) 0 1 ≡ compare Int (want y)
+pub int-compared : (y : Entry) → refuse (is_int y || is_top y) 1 0 ≡ compare Int (want y)
 unfolding compare takes refuse
 int-compared Int = refl
 int-compared Top = refl
@@ -203,7 +186,7 @@ made-taken c Blank = refl
 made-taken c Malformed = refl
 
 -- .. and a class that may be null
-pub nullable-compared : (c : ℕ) (y : Entry) → cond (is_top y || (is_nullable y && eqb (class_of y) c)) 0 1 ≡ compare (Nullable c) (want y)
+pub nullable-compared : (c : ℕ) (y : Entry) → refuse (is_top y || (is_nullable y && eqb (class_of y) c)) 1 0 ≡ compare (Nullable c) (want y)
 unfolding compare takes refuse
 nullable-compared c Int = refl
 nullable-compared c Top = refl

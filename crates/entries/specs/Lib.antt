@@ -1,3 +1,4 @@
 pub mod Entries
 pub mod Fits
 pub mod Words
+pub mod Shorts

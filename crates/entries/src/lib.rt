@@ -6,6 +6,7 @@ ghost use Rattle.std.specs.Prelude.{◌≡◌, true, ◌+◌, ◌-◌, ◌≤◌
 ghost use Rattle.ground.specs.Chain.{refuse};
 ghost use Rattle.entries.specs.Entries.{Int, Ref, Nullable, pair_ok, nullable_ok, dip_of, end_of, kind_of, class_of, is_int, is_top, is_reference, is_nullable, is_blank, is_type, is_of, may_be_of, no_end, argument_entry, matches, field_entry, matches_field};
 ghost use Rattle.entries.specs.Fits.{may_go, takes, compare, want, want_entered, want_exited, want_both};
+ghost use Rattle.entries.specs.Shorts.{short_number, short_in};
 ghost use Rattle.entries.specs.Words.{entry_from};
 
 // The greatest dip, the least and the greatest end.
@@ -22,6 +23,26 @@ const TOP_WORD: u32 = 33554432;
 
 // The descriptor of an argument that is no class.
 const INT: u8 = 255;
+
+// How an entry falls short of its place: kind or class differs, the dip or the end is too small.
+#[derive(Clone, Copy)]
+pub enum Short {
+    Kind,
+    Dip,
+    End,
+}
+
+impl Short {
+    pub fn number(self) -> u8
+        ensures { result ≡ short_number self }
+    {
+        match self {
+            Short::Kind => 1,
+            Short::Dip => 2,
+            Short::End => 3,
+        }
+    }
+}
 
 fn kind_in(w: u32) -> u8
     ensures { result ≡ w / 16777216 }
@@ -47,12 +68,14 @@ fn end_in(w: u32) -> u8
     (w % 256) as u8
 }
 
+#[tactic(auto, unfolding(crate::specs::Entries::pair_ok))]
 fn pair_ok(n: u8, c: u8, d: u8, e: u8) -> bool
     ensures { result ≡ pair_ok n c d e }
 {
     (c < n) & (d <= MAX_DIP) & (MIN_END <= e) & (e <= MAX_END)
 }
 
+#[tactic(auto, unfolding(crate::specs::Entries::nullable_ok))]
 fn nullable_ok(n: u8, c: u8, d: u8, e: u8) -> bool
     ensures { result ≡ nullable_ok n c d e }
 {
@@ -159,6 +182,7 @@ pub fn may_be_of(n: u8, c: u8, w: u32) -> bool
 }
 
 // An entry that matches a descriptor.
+#[tactic(auto, unfolding(crate::specs::Entries::matches))]
 pub fn matches(n: u8, descriptor: u8, w: u32) -> bool
     ensures { result ≡ matches descriptor (entry_from n w) }
 {
@@ -169,6 +193,7 @@ pub fn matches(n: u8, descriptor: u8, w: u32) -> bool
 }
 
 // An entry that matches a field's descriptor.
+#[tactic(auto, unfolding(crate::specs::Entries::matches_field))]
 pub fn matches_field(n: u8, descriptor: u8, w: u32) -> bool
     ensures { result ≡ matches_field descriptor (entry_from n w) }
 {
@@ -185,6 +210,7 @@ pub fn may_go(n: u8, w: u32) -> bool
 }
 
 // v takes w, pairs aside.
+#[tactic(auto, unfolding(crate::specs::Fits::takes))]
 fn takes(n: u8, v: u32, w: u32) -> bool
     ensures { result ≡ takes (entry_from n v) (entry_from n w) }
 {
@@ -198,24 +224,34 @@ fn takes(n: u8, v: u32, w: u32) -> bool
 }
 
 // The one comparison: a place that takes what comes or not, the pair (d, e) that comes, and the pair (x, y) that is wanted.
-fn compared(taken: bool, d: u16, e: u16, x: u16, y: u16) -> u8
-    ensures { result ≡ refuse taken 1 (refuse (leb x d) 2 (refuse (leb y e) 3 0)) }
+#[tactic(auto, unfolding(ground::specs::Chain::refuse))]
+fn compared(taken: bool, d: u16, e: u16, x: u16, y: u16) -> Result<(), Short>
+    ensures { short_in result ≡ refuse taken 1 (refuse (leb x d) 2 (refuse (leb y e) 3 0)) }
 {
     if !taken {
-        return 1;
+        return Err(Short::Kind);
     }
     if d < x {
-        return 2;
+        return Err(Short::Dip);
     }
     if e < y {
-        return 3;
+        return Err(Short::End);
     }
-    0
+    Ok(())
+}
+
+// .. where no pair is wanted.
+#[tactic(auto, unfolding(ground::specs::Chain::refuse))]
+fn fit(taken: bool) -> Result<(), Short>
+    ensures { short_in result ≡ refuse taken 1 0 }
+{
+    if taken { Ok(()) } else { Err(Short::Kind) }
 }
 
 // w against v as it stands.
-pub fn compare(n: u8, w: u32, v: u32) -> u8
-    ensures { result ≡ compare (entry_from n w) (want (entry_from n v)) }
+#[tactic(auto, unfolding(crate::specs::Fits::compare))]
+pub fn compare(n: u8, w: u32, v: u32) -> Result<(), Short>
+    ensures { short_in result ≡ compare (entry_from n w) (want (entry_from n v)) }
 {
     compared(
         takes(n, v, w),
@@ -233,25 +269,17 @@ fn alike(n: u8, w: u32, v: u32) -> bool
     is_reference(n, w) & is_reference(n, v) & (class_in(w) == class_in(v))
 }
 
-fn less(d: u16) -> u16
-    ensures { result ≡ d - 1 }
-{
-    if d == 0 {
-        return 0;
-    }
-    d - 1
-}
-
 // monitorenter: w becomes v.
-pub fn compare_entered(n: u8, w: u32, v: u32) -> u8
-    ensures { result ≡ compare (entry_from n w) (want_entered (entry_from n v)) }
+#[tactic(auto, unfolding(crate::specs::Fits::compare))]
+pub fn compare_entered(n: u8, w: u32, v: u32) -> Result<(), Short>
+    ensures { short_in result ≡ compare (entry_from n w) (want_entered (entry_from n v)) }
 {
     if alike(n, w, v) {
         return compared(
             true,
             dip_in(w) as u16,
             end_in(w) as u16,
-            less(dip_in(v) as u16),
+            (dip_in(v) as u16).saturating_sub(1),
             end_in(v) as u16 + 1,
         );
     }
@@ -259,14 +287,15 @@ pub fn compare_entered(n: u8, w: u32, v: u32) -> u8
         takes(n, v, w),
         dip_of(n, w),
         end_of(n, w),
-        less(dip_of(n, v)),
+        dip_of(n, v).saturating_sub(1),
         end_of(n, v) + 1,
     )
 }
 
 // monitorexit: w becomes v.
-pub fn compare_exited(n: u8, w: u32, v: u32) -> u8
-    ensures { result ≡ compare (entry_from n w) (want_exited (entry_from n v)) }
+#[tactic(auto, unfolding(crate::specs::Fits::compare))]
+pub fn compare_exited(n: u8, w: u32, v: u32) -> Result<(), Short>
+    ensures { short_in result ≡ compare (entry_from n w) (want_exited (entry_from n v)) }
 {
     if alike(n, w, v) {
         return compared(
@@ -274,7 +303,7 @@ pub fn compare_exited(n: u8, w: u32, v: u32) -> u8
             dip_in(w) as u16,
             end_in(w) as u16,
             dip_in(v) as u16 + 1,
-            less(end_in(v) as u16),
+            (end_in(v) as u16).saturating_sub(1),
         );
     }
     compared(
@@ -282,23 +311,20 @@ pub fn compare_exited(n: u8, w: u32, v: u32) -> u8
         dip_of(n, w),
         end_of(n, w),
         dip_of(n, v) + 1,
-        less(end_of(n, v)),
+        end_of(n, v).saturating_sub(1),
     )
 }
 
 fn both_ends(n: u8, v: u32, u: u32) -> u16
     ensures { result ≡ end_of (entry_from n v) + end_of (entry_from n u) - 64 }
 {
-    let e = end_of(n, v) + end_of(n, u);
-    if e < 64 {
-        return 0;
-    }
-    e - 64
+    (end_of(n, v) + end_of(n, u)).saturating_sub(64)
 }
 
 // load: w goes to v and to u.
-pub fn compare_both(n: u8, w: u32, v: u32, u: u32) -> u8
-    ensures { result ≡ compare (entry_from n w) (want_both (entry_from n v) (entry_from n u)) }
+#[tactic(auto, unfolding(crate::specs::Fits::compare))]
+pub fn compare_both(n: u8, w: u32, v: u32, u: u32) -> Result<(), Short>
+    ensures { short_in result ≡ compare (entry_from n w) (want_both (entry_from n v) (entry_from n u)) }
 {
     compared(
         takes(n, v, w) & takes(n, u, w),
@@ -310,15 +336,15 @@ pub fn compare_both(n: u8, w: u32, v: u32, u: u32) -> u8
 }
 
 // Int against v.
-pub fn compare_int(n: u8, v: u32) -> u8
-    ensures { result ≡ compare Int (want (entry_from n v)) }
+pub fn compare_int(n: u8, v: u32) -> Result<(), Short>
+    ensures { short_in result ≡ compare Int (want (entry_from n v)) }
 {
-    if is_int(n, v) | is_top(n, v) { 0 } else { 1 }
+    fit(is_int(n, v) | is_top(n, v))
 }
 
 // A class with (0,0) against v.
-pub fn compare_made(n: u8, c: u8, v: u32) -> u8
-    ensures { result ≡ compare (Ref c 0 no_end) (want (entry_from n v)) }
+pub fn compare_made(n: u8, c: u8, v: u32) -> Result<(), Short>
+    ensures { short_in result ≡ compare (Ref c 0 no_end) (want (entry_from n v)) }
 {
     compared(
         is_top(n, v) | may_be_of(n, c, v),
@@ -330,31 +356,28 @@ pub fn compare_made(n: u8, c: u8, v: u32) -> u8
 }
 
 // monitorenter on a class that may be null, but wasn't: its class with (0,0) becomes v.
-pub fn compare_made_entered(n: u8, c: u8, v: u32) -> u8
-    ensures { result ≡ compare (Ref c 0 no_end) (want_entered (entry_from n v)) }
+pub fn compare_made_entered(n: u8, c: u8, v: u32) -> Result<(), Short>
+    ensures { short_in result ≡ compare (Ref c 0 no_end) (want_entered (entry_from n v)) }
 {
     compared(
         is_top(n, v) | may_be_of(n, c, v),
         0,
         64,
-        less(dip_of(n, v)),
+        dip_of(n, v).saturating_sub(1),
         end_of(n, v) + 1,
     )
 }
 
-fn compare_nullable(n: u8, c: u8, v: u32) -> u8
-    ensures { result ≡ compare (Nullable c) (want (entry_from n v)) }
+fn compare_nullable(n: u8, c: u8, v: u32) -> Result<(), Short>
+    ensures { short_in result ≡ compare (Nullable c) (want (entry_from n v)) }
 {
-    if is_top(n, v) | (is_nullable(n, v) & (class_of(n, v) == c)) {
-        0
-    } else {
-        1
-    }
+    fit(is_top(n, v) | (is_nullable(n, v) & (class_of(n, v) == c)))
 }
 
 // What a field holds, as its type, against v.
-pub fn compare_field(n: u8, descriptor: u8, v: u32) -> u8
-    ensures { result ≡ compare (field_entry descriptor) (want (entry_from n v)) }
+#[tactic(auto, unfolding(crate::specs::Entries::field_entry))]
+pub fn compare_field(n: u8, descriptor: u8, v: u32) -> Result<(), Short>
+    ensures { short_in result ≡ compare (field_entry descriptor) (want (entry_from n v)) }
 {
     if descriptor == INT {
         return compare_int(n, v);
@@ -363,8 +386,9 @@ pub fn compare_field(n: u8, descriptor: u8, v: u32) -> u8
 }
 
 // An argument as its type against v.
-pub fn compare_argument(n: u8, descriptor: u8, v: u32) -> u8
-    ensures { result ≡ compare (argument_entry descriptor) (want (entry_from n v)) }
+#[tactic(auto, unfolding(crate::specs::Entries::argument_entry))]
+pub fn compare_argument(n: u8, descriptor: u8, v: u32) -> Result<(), Short>
+    ensures { short_in result ≡ compare (argument_entry descriptor) (want (entry_from n v)) }
 {
     if descriptor == INT {
         return compare_int(n, v);

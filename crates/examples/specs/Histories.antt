@@ -5,8 +5,7 @@ use Rattle.state.specs.declared.State.{State}
 use Rattle.state.specs.State.{count_of}
 use Rattle.machine.specs.Runs.{Step, reached}
 use Rattle.verifier.specs.Verdict.{verdict_of}
-use Rattle.history.specs.declared.Object.{Object}
-use Rattle.history.specs.declared.Object.TheVariants.{None, One}
+use Rattle.history.specs.Met.{Object, None, One}
 use Rattle.history.specs.Event.{Event}
 use Rattle.history.specs.Reading.{live_by, entered, exited}
 use Rattle.history.specs.History.{history}

@@ -1,12 +1,11 @@
 -- Document 02, Q-7: lists of schedule bytes that are run at once, each with what the request's words give for it, worked out by hand.
 use Rattle.std.specs.Prelude.{List, [], ◌∷◌, ◌++◌, map, ◌≡◌, ℕ, replicate}
-use Rattle.structure.specs.declared.Verdict.{Verdict}
-use Rattle.structure.specs.Verdicts.{verdict, rule_fails}
+use Rattle.verdicts.specs.declared.Verdict.{Verdict}
+use Rattle.verdicts.specs.Verdicts.{verdict, rule_fails}
 use Rattle.threads.specs.declared.Thread.{Thread}
 use Rattle.state.specs.State.{empty_state}
 use Rattle.cases.specs.Cases.{case_b}
-use Rattle.runner.specs.declared.Ran.{Ran}
-use Rattle.runner.specs.Run.{ran_of}
+use Rattle.runner.specs.Run.{Ran, ran_of}
 use Rattle.examples.specs.Bundles.{push0, inc, branch, new, start, returns, int, reference, free, line, source, bundle_of}
 use Rattle.examples.specs.Runs.{two_threads, caught_new}
 

@@ -1,8 +1,8 @@
 -- Document 02, Q-10: bundles that `verify` accepts, whose threads may stand still for ever unless their locks are taken in one order; what the profile says of them.
 use Rattle.std.specs.Prelude.{List, [], ◌∷◌, ◌++◌, map, ◌≡◌, Bool, ◌&&◌, ℕ, eqb, length, replicate}
 use Rattle.ground.specs.Bounded.{count_below}
-use Rattle.structure.specs.declared.Verdict.{Verdict}
-use Rattle.structure.specs.Verdicts.{verdict, rule_fails}
+use Rattle.verdicts.specs.declared.Verdict.{Verdict}
+use Rattle.verdicts.specs.Verdicts.{verdict, rule_fails}
 use Rattle.verifier.specs.Verdict.{verdict_of}
 use Rattle.order.specs.Verdict.{ordered_verdict_of}
 use Rattle.state.specs.declared.State.{State}

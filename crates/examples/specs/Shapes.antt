@@ -1,7 +1,7 @@
 -- Document 02, Q-5: bundles whose pairs are to be worked out: 1 to 8, pair bytes aside, and whether records and directory are apart (else 23).
 use Rattle.std.specs.Prelude.{List, [], ◌∷◌, map, ◌≡◌, Bool, true, false, ℕ, set}
-use Rattle.structure.specs.declared.Verdict.{Verdict}
-use Rattle.structure.specs.Verdicts.{verdict}
+use Rattle.verdicts.specs.declared.Verdict.{Verdict}
+use Rattle.verdicts.specs.Verdicts.{verdict}
 use Rattle.shape.specs.Shape.{shape_verdict}
 use Rattle.shape.specs.Apart.{all_apart}
 use Rattle.examples.specs.Bundles.{store, new, returns, top, none, reference, nullable, line, source, bundle_of}

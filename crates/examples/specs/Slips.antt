@@ -1,8 +1,8 @@
 -- Slips that weaken a rule: for each, the weakened rule, a bundle that it lets through where document 01's rule refuses, and a schedule that then faults.
 use Rattle.std.specs.Prelude.{List, [], ◌∷◌, ◌++◌, map, ◌≡◌, Bool, true, ◌&&◌, ℕ, ◌-◌, leb, eqb}
 use Rattle.ground.specs.Bounded.{all_below}
-use Rattle.structure.specs.declared.Verdict.{Verdict}
-use Rattle.structure.specs.Verdicts.{rule_fails}
+use Rattle.verdicts.specs.declared.Verdict.{Verdict}
+use Rattle.verdicts.specs.Verdicts.{rule_fails}
 use Rattle.entries.specs.Entries.{Entry, end_of, is_int, is_reference, is_of}
 use Rattle.entries.specs.Fits.{may_go, takes, Want}
 use Rattle.rows.specs.Rows.{Row}

@@ -2,15 +2,13 @@
 use Rattle.std.specs.Prelude.{List, Bool, cond, ℕ, zero, suc, ◌+◌, ◌*◌, ◌%◌, length, leb, eqb}
 use Rattle.ground.specs.Bytes.{at}
 use Rattle.bundle.specs.Container.{class_at}
-use Rattle.structure.specs.declared.Verdict.{Verdict}
+use Rattle.verdicts.specs.declared.Verdict.{Verdict}
 use Rattle.structure.specs.Structure.{record_of}
 use Rattle.state_bytes.specs.Format.{is_state, state_of}
-use Rattle.turns.specs.declared.Stepped.{Stepped}
+use Rattle.turns.specs.Stepped.{Stepped}
 use Rattle.machine.specs.Machine.{fresh_of, step_of}
 use Rattle.holding.specs.Question.{held_of}
-use Rattle.history.specs.declared.Object.{Object}
-use Rattle.history.specs.declared.Object.TheVariants.{None, One}
-use Rattle.history.specs.declared.Met.{Met}
+use Rattle.history.specs.Met.{Object, None, One, Met}
 use Rattle.history.specs.Meeting.{met_of}
 use Rattle.exports.specs.declared.Running.{Running}
 

@@ -1,6 +1,6 @@
 -- What the C call that works the pairs out gives (document 02, Q-5): a number, and the lent bundle as it is left.
 use Rattle.std.specs.Prelude.{List, ◌≡◌, ℕ, ◌+◌, ◌*◌}
-use Rattle.structure.specs.declared.Verdict.{Verdict}
+use Rattle.verdicts.specs.declared.Verdict.{Verdict}
 use Rattle.pairs.specs.Answer.{Answer}
 
 -- the number in the low byte, the class in the next, the address in the two above; there is no why, since 9 is none of its refusals

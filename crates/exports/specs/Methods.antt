@@ -1,6 +1,6 @@
 -- What the C call that takes a method's instructions gives (document 02, Q-9): a number, and the instructions in a lent buffer.
 use Rattle.std.specs.Prelude.{List, ◌≡◌, ℕ, ◌+◌, ◌*◌, length}
-use Rattle.classfile.specs.declared.Taken.{Taken}
+use Rattle.classfile.specs.Taking.{Taken}
 use Rattle.classfile.specs.Taking.{taken_of, out_of}
 
 -- the number in the low byte; in the upper half how many instructions are written, or with a refusal its offset in the code

@@ -1,6 +1,6 @@
 -- What the C call on a usage's text gives: its numbers as one.
 use Rattle.std.specs.Prelude.{Bool, cond, ℕ, ◌+◌, ◌*◌, ◌≤◌, ℤ, pos, nat_abs, ◌+ℤ◌}
-use Rattle.usage_text.specs.declared.Reading.{Reading}
+use Rattle.usage_text.specs.Answer.{Reading}
 
 -- an end as an entry keeps it, with 64 added; no end that is answered is below −63
 abbrev pub end_byte : ℤ → ℕ

@@ -4,7 +4,7 @@ use Rattle.ground.specs.Bytes.{at}
 use Rattle.ground.specs.Chain.{refuse}
 use Rattle.ground.specs.Bounded.{set_below}
 use Rattle.state_written.specs.Written.{state_bytes}
-use Rattle.runner.specs.declared.Ran.{Ran}
+use Rattle.runner.specs.Run.{Ran}
 use Rattle.runner.specs.Run.{ran_of}
 use Rattle.exports.specs.Exports.{packed}
 

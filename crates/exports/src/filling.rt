@@ -2,7 +2,7 @@
 ghost use Rattle.std.specs.Prelude.{◌≡◌};
 ghost use Rattle.exports.specs.Filling.{packed_filled, FillGives};
 
-use structure::Verdict;
+use verdicts::Verdict;
 
 fn pack_filled(v: Verdict) -> u64
     ensures { result ≡ packed_filled v }
@@ -16,5 +16,5 @@ fn pack_filled(v: Verdict) -> u64
 pub extern "C" fn hveitmar_fill(b: &mut [u8]) -> u64
     ensures { FillGives b.old result b.new }
 {
-    pack_filled(pairs::fill(b))
+    pack_filled(verdicts::in_numbers(pairs::fill(b)))
 }

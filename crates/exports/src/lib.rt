@@ -9,12 +9,13 @@ mod texts;
 ghost use Rattle.std.specs.Prelude.{◌≡◌, ◌≤◌, ◌<◌};
 ghost use Rattle.verifier.specs.Verdict.{verdict_of};
 ghost use Rattle.order.specs.Verdict.{ordered_verdict_of};
-ghost use Rattle.machine.specs.Machine.{step_of};
-ghost use Rattle.exports.specs.Exports.{packed, packed_record, packed_held, object_number, packed_met, advanced, scheduled, digest_of, answers_of, met_after};
+ghost use Rattle.machine.specs.Machine.{fresh_of, step_of};
+ghost use Rattle.history.specs.Met.{object_answered, met_in};
+ghost use Rattle.exports.specs.Exports.{packed, packed_record, packed_held, object_number, packed_met, begun, advanced, scheduled, digest_of, answers_of, met_after};
 
-use history::{Met, Object};
+use history::Met;
 use state::State;
-use structure::Verdict;
+use verdicts::Verdict;
 
 // A machine on its way, and its answers so far, mixed into one number. The number comes first: behind the state it would leave a gap, and the state would be copied once more.
 #[derive(Clone, Copy)]
@@ -37,7 +38,7 @@ fn pack(v: Verdict) -> u64
 pub extern "C" fn hveitmar_verdict(b: &[u8]) -> u64
     ensures { result ≡ packed (verdict_of b.now) }
 {
-    pack(verifier::verify(b))
+    pack(verdicts::in_numbers(verifier::verify(b)))
 }
 
 // .. under the lock order that the levels give: levels has eight bytes, byte c is class c's level; any other length is 26, before all else.
@@ -45,7 +46,7 @@ pub extern "C" fn hveitmar_verdict(b: &[u8]) -> u64
 pub extern "C" fn hveitmar_ordered(b: &[u8], levels: &[u8]) -> u64
     ensures { result ≡ packed (ordered_verdict_of b.now levels.now) }
 {
-    pack(order::verify_ordered(b, levels))
+    pack(verdicts::in_numbers(order::verify_ordered(b, levels)))
 }
 
 // The record of a class: its offset in the low half, its length in the upper; 0 where there is none.
@@ -68,8 +69,10 @@ pub extern "C" fn hveitmar_held(b: &[u8], g: &[u8], thread: u8) -> u32
     if !state_bytes::is_state(g) {
         return 4294901760;
     }
-    let h = holding::held(b, state_bytes::state(g), thread);
-    256 * (h.answer as u32) + h.number as u32
+    match holding::held(b, state_bytes::state(g), thread) {
+        Ok(number) => number as u32,
+        Err(answer) => 256 * (answer.number() as u32),
+    }
 }
 
 fn advance(b: &[u8], r: Running, thread: u8, fails: bool) -> Running
@@ -81,7 +84,18 @@ fn advance(b: &[u8], r: Running, thread: u8, fails: bool) -> Running
     let next = o.state;
     Running {
         state: next,
-        digest: (r.digest * 31 + (o.answer as u64)) % 4294967296,
+        digest: (r.digest * 31 + (o.answer.number() as u64)) % 4294967296,
+    }
+}
+
+fn begin(b: &[u8]) -> Running
+    ensures { (result ≡ begun (fresh_of b.now)) × (result.digest < 4294967296) }
+{
+    let f = machine::fresh(b);
+    let s = f.state;
+    Running {
+        state: s,
+        digest: f.answer.number() as u64,
     }
 }
 
@@ -89,15 +103,9 @@ fn advance(b: &[u8], r: Running, thread: u8, fails: bool) -> Running
 fn ran(b: &[u8], schedule: &[u8]) -> Running
     ensures { result ≡ scheduled b.now schedule.now }
 {
-    let f = machine::fresh(b);
-    let s = f.state;
-    let mut r = Running {
-        state: s,
-        digest: f.answer as u64,
-    };
-    for i in 0..schedule.len() {
-        let x = schedule[i];
-        r = advance(b, r, x % 16, 128 <= x);
+    let mut r = begin(b);
+    for x in schedule {
+        r = advance(b, r, *x % 16, 128 <= *x);
     }
     r
 }
@@ -115,29 +123,24 @@ pub extern "C" fn hveitmar_digest(b: &[u8], schedule: &[u8]) -> u64
 pub extern "C" fn hveitmar_answers(b: &[u8], threads: &[u8], fails: &[u8]) -> u64
     ensures { result ≡ answers_of b.now threads.now fails.now }
 {
-    let f = machine::fresh(b);
-    let s = f.state;
-    let mut r = Running {
-        state: s,
-        digest: f.answer as u64,
-    };
+    let mut r = begin(b);
     for i in 0..threads.len() {
         r = advance(b, r, threads[i], 1 <= ground::byte(fails, i));
     }
     r.digest
 }
 
-fn object_number(o: Object) -> u64
-    ensures { (result ≡ object_number o) × (result ≤ 256) }
+fn object_number(o: Option<u8>) -> u64
+    ensures { (result ≡ object_number (object_answered o)) × (result ≤ 256) }
 {
     match o {
-        Object::None => 0,
-        Object::One(n) => n as u64 + 1,
+        None => 0,
+        Some(n) => n as u64 + 1,
     }
 }
 
 fn pack_met(m: Met) -> u64
-    ensures { result ≡ packed_met m }
+    ensures { result ≡ packed_met (met_in m) }
 {
     let x = m.instruction;
     let o = m.object;

@@ -1,13 +1,22 @@
 // The C call that takes a method's instructions from a class file (document 02, Q-9).
 ghost use Rattle.std.specs.Prelude.{◌≡◌};
+ghost use Rattle.classfile.specs.Taking.{taken_in};
 ghost use Rattle.exports.specs.Methods.{packed_taken, TakeGives};
 
-use classfile::Taken;
+use classfile::Untaken;
 
-fn pack_taken(t: Taken) -> u64
-    ensures { result ≡ packed_taken t }
+fn pack_taken(taken: Result<u32, Untaken>) -> u64
+    ensures { result ≡ packed_taken (taken_in taken) }
 {
-    t.number as u64 + 4294967296 * (t.offset as u64)
+    let (number, offset) = match taken {
+        Ok(count) => (0, count),
+        Err(Untaken::Cut) => (30, 0),
+        Err(Untaken::Unknown(at)) => (31, at),
+        Err(Untaken::Stray(at)) => (32, at),
+        Err(Untaken::Long(at)) => (33, at),
+        Err(Untaken::Room(at)) => (34, at),
+    };
+    number + 4294967296 * (offset as u64)
 }
 
 // The instructions of a Code attribute, written into the lent buffer: 0 in the low byte, and their number in the upper half; or a refusal, 30 to 34,

@@ -2,31 +2,18 @@
 ghost use Rattle.std.specs.Prelude.{◌≡◌, ◌≤◌, length};
 ghost use Rattle.ground.specs.Bytes.{at};
 ghost use Rattle.ground.specs.Bounded.{set_below};
-ghost use Rattle.exports.specs.Runs.{packed_ran, RunGives};
+ghost use Rattle.exports.specs.Runs.{RunGives};
 
 use crate::pack;
-use runner::Ran;
 use state_bytes::LENGTH;
-
-fn pack_ran(r: Ran) -> u64
-    ensures { result ≡ packed_ran r }
-{
-    if r.answer == 0 {
-        return 256 * ((r.steps % 72057594037927936) as u64);
-    }
-    let v = r.verdict;
-    r.answer as u64 + 256 * pack(v)
-}
 
 // The first 2,537 bytes.
 fn lay(out: &mut [u8], g: [u8; LENGTH])
     requires { 2537 ≤ length out.old }
     ensures { out.new ≡ set_below 2537 (at g) out.old }
 {
-    let mut i: usize = 0;
-    while i < LENGTH {
+    for i in 0..LENGTH {
         out[i] = g[i];
-        i += 1;
     }
 }
 
@@ -40,8 +27,14 @@ pub extern "C" fn hveitmar_run(b: &[u8], schedule: &[u8], out: &mut [u8]) -> u64
     if out.len() < LENGTH {
         return 24;
     }
-    let r = runner::run(b, schedule);
-    let s = r.state;
-    lay(out, state_written::bytes(s));
-    pack_ran(r)
+    match runner::run(b, schedule) {
+        Ok(ran) => {
+            lay(out, state_written::bytes(ran.state));
+            256 * ((ran.steps % 72057594037927936) as u64)
+        }
+        Err(refusal) => {
+            lay(out, state_written::bytes(state::empty_state()));
+            19 + 256 * pack(refusal.numbers())
+        }
+    }
 }

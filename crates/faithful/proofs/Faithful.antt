@@ -23,7 +23,7 @@ use Rattle.threads.specs.Threads.{with_at, with_stack, var_of, pushed, popped, t
 use Rattle.threads.specs.Threads as threads
 use Rattle.state.specs.declared.State.{State}
 use Rattle.state.specs.State.{thread_at, count_of, class_of, with_thread, with_count, with_object}
-use Rattle.turns.specs.declared.Stepped.{Stepped}
+use Rattle.turns.specs.Stepped.{Stepped}
 use Rattle.turns.specs.Answers.{test}
 use Rattle.turns.specs.Faults.{has, room, throw_fault, push_fault, new_fails}
 use Rattle.turns.specs.Moves as moves

@@ -12,7 +12,7 @@ use Rattle.bundle.specs.Program.{program_of}
 use Rattle.threads.specs.declared.Thread.{Thread}
 use Rattle.state.specs.declared.State.{State}
 use Rattle.state.specs.State.{thread_at}
-use Rattle.turns.specs.declared.Stepped.{Stepped}
+use Rattle.turns.specs.Stepped.{Stepped}
 use Rattle.turns.specs.Answers.{test, unless_drawn}
 use Rattle.turns.specs.Faults.{fault_of}
 use Rattle.turns.specs.Waits.{wait_of}

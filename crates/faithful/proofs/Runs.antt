@@ -11,7 +11,7 @@ use borrow.Author.Tests.{eq-eqb, ne_eqb}
 use Rattle.values.specs.declared.Slot.{Slot}
 use Rattle.values.specs.Values.{zero_slot, ref_slot, is_null, object_of}
 use Rattle.state.specs.declared.State.{State}
-use Rattle.turns.specs.declared.Stepped.{Stepped}
+use Rattle.turns.specs.Stepped.{Stepped}
 use Rattle.java.specs.declared.Java.{Java}
 use Rattle.java.specs.declared.Java.TheVariants.{Nop, Pop, Iconst0, Load, Store, Ifne, Enter, Exit, New, Athrow, Return, Iinc, Other}
 use Rattle.java.specs.Instructions.{java_at}

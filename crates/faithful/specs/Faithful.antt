@@ -9,7 +9,7 @@ use Rattle.values.specs.Values.{zero_slot, is_int}
 use Rattle.threads.specs.Threads.{var_of}
 use Rattle.state.specs.declared.State.{State}
 use Rattle.state.specs.State.{thread_at, count_of, class_of}
-use Rattle.turns.specs.declared.Stepped.{Stepped}
+use Rattle.turns.specs.Stepped.{Stepped}
 use Rattle.belongs.specs.Belongs.{state_ok}
 use Rattle.machine.specs.Machine.{readable, step_of}
 use Rattle.java.specs.declared.Java.TheVariants.{Iinc}

@@ -14,6 +14,11 @@ use Rattle.ground.proofs.Bounded.{all-elim, all-intro, all-some, all-stop}
 use Rattle.bundle.specs.declared.Class.{Class}
 use Rattle.entries.specs.Entries.{is_type, is_blank, entry_of, zeros}
 use Rattle.entries.specs.Words.{entry_from}
+use Rattle.entries.specs.declared.Short.{Short}
+use Rattle.entries.specs.declared.Short.TheVariants.{Kind, Dip, End}
+use Rattle.entries.specs.Shorts.{short_in}
+use Rattle.std.proofs.Common.{Result, Ok, Err, eqb}
+use Rattle.std.specs.Result.{is_ok}
 use Rattle.rows.specs.Rows.{Row, row_start, variable_at, depth_at, stack_at, row_from, row_at}
 use Rattle.forms.specs.Forms.{var_formed, entry_formed, vars_formed, stack_formed, row_formed}
 use Rattle.forms.specs.Columns.{rest_formed, rest_of, place_formed, column_formed, rows_formed}
@@ -50,11 +55,11 @@ pub all-fewer : (p : ℕ → Bool) (m n : ℕ) → m ≤ n → all_below m p ≡
 all-fewer p m n l e = let s = all-some p m e in sym (all-stop p n s.0 (omega (arith, s.1)) s.2)
 
 -- a row in two parts
-pub row-parts : (vars limit : ℕ) (x : Row) → (vars_formed vars x && rest_formed limit x) ≡ row_formed vars limit x
+pub row_parts : (vars limit : ℕ) (x : Row) → row_formed vars limit x ≡ (vars_formed vars x && rest_formed limit x)
 unfolding row_formed rest_formed
-row-parts vars limit x = go (leb x.depth limit) (vars_formed vars x)
+row_parts vars limit x = go (leb x.depth limit) (vars_formed vars x)
   where
-    go : (a b : Bool) → (b && (a && stack_formed limit x)) ≡ (a && b && stack_formed limit x)
+    go : (a b : Bool) → (a && b && stack_formed limit x) ≡ (b && (a && stack_formed limit x))
     go true true = refl
     go true false = refl
     go false true = refl
@@ -65,7 +70,7 @@ module _ (n : ℕ) (k : Class) (r : List ℕ) where
   row_of l = row_formed k.vars k.limit (row_at n k r (l + 1))
 
   row-of : (l : ℕ) → vars_formed k.vars (row_at n k r (l + 1)) ≡ true → rest_of n k r l ≡ true → row_of l ≡ true
-  row-of l p q = rw (← row-parts k.vars k.limit (row_at n k r (l + 1))) (and_both _ _ p q)
+  row-of l p q = rw (row_parts k.vars k.limit (row_at n k r (l + 1))) (and_both _ _ p q)
 
   -- all columns and all rests
   pub rows_told : all_below k.vars (column_formed n k r) ≡ true → all_below k.code (rest_of n k r) ≡ rows_formed n k r
@@ -77,7 +82,7 @@ module _ (n : ℕ) (k : Class) (r : List ℕ) where
 
       go : (t : Bool) → all_below k.code (rest_of n k r) ≡ t → t ≡ all_below k.code row_of
       go true q = sym (all-intro row_of k.code (λ l m. row-of l (there l m) (all-elim (rest_of n k r) k.code q l m)))
-      go false q = let s = all-some (rest_of n k r) k.code q in sym (all-stop row_of k.code s.0 s.1 (rw (← row-parts k.vars k.limit (row_at n k r (s.0 + 1)), there s.0 s.1) s.2))
+      go false q = let s = all-some (rest_of n k r) k.code q in sym (all-stop row_of k.code s.0 s.1 (rw (row_parts k.vars k.limit (row_at n k r (s.0 + 1)), there s.0 s.1) s.2))
 
   -- a column that fails
   pub rows-refused : all_below k.vars (column_formed n k r) ≡ false → false ≡ rows_formed n k r
@@ -85,4 +90,11 @@ module _ (n : ℕ) (k : Class) (r : List ℕ) where
   rows-refused e =
       let s = all-some (column_formed n k r) k.vars e in
       let t = all-some (place_formed n k r s.0) k.code s.2 in
-      sym (all-stop row_of k.code t.0 t.1 (rw (← row-parts k.vars k.limit (row_at n k r (t.0 + 1)), all-stop (var_formed (row_at n k r (t.0 + 1))) k.vars s.0 s.1 t.2)))
+      sym (all-stop row_of k.code t.0 t.1 (rw (row_parts k.vars k.limit (row_at n k r (t.0 + 1)), all-stop (var_formed (row_at n k r (t.0 + 1))) k.vars s.0 s.1 t.2)))
+
+-- a comparison that is well has the number 0, and no other has
+pub fits : (r : Result Unit Short) → is_ok r ≡ eqb (short_in r) 0
+fits (Ok _) = refl
+fits (Err Kind) = refl
+fits (Err Dip) = refl
+fits (Err End) = refl

@@ -6,28 +6,28 @@ ghost use Rattle.ground.specs.Bounded.{all_below};
 ghost use Rattle.ground.specs.Bytes.{at};
 ghost use Rattle.entries.specs.Entries.{is_type};
 ghost use Rattle.entries.specs.Words.{entry_from};
-ghost use Rattle.rows.specs.Rows.{depth_at, row_from, row_at};
+ghost use Rattle.rows.specs.Rows.{depth_at, row_in, row_of};
 ghost use Rattle.forms.specs.Forms.{var_formed, entry_formed, vars_formed, stack_formed, row_formed, first_var, first_vars, first_row};
 ghost use Rattle.forms.specs.Columns.{rest_formed, rest_of, column_formed, rows_formed};
 
-use bundle::Class;
+use bundle::Record;
 use instructions::Addr;
 
 // 2,0,0,0: before the first row any type does.
 const TOP_WORD: u32 = 33554432;
 
-fn var_formed(n: u8, k: Class, r: &[u8], p: u32, i: u8) -> bool
-    ensures { result ≡ var_formed (row_from n k r.now p) i }
+fn var_formed(m: &Record, p: u32, i: u8) -> bool
+    ensures { result ≡ var_formed (row_in m.now p) i }
 {
-    entries::is_type(n, rows::variable_word(n, k, r, p, i))
+    entries::is_type(m.classes, rows::variable_word(m, p, i))
 }
 
-fn vars_formed(n: u8, k: Class, r: &[u8], p: u32) -> bool
-    ensures { result ≡ vars_formed k.vars (row_from n k r.now p) }
+#[tactic(auto, using(ground::proofs::Bounded::every), unfolding(crate::specs::Forms::vars_formed))]
+fn vars_formed(m: &Record, p: u32) -> bool
+    ensures { result ≡ vars_formed m.now.class.vars (row_in m.now p) }
 {
-    let vars = k.vars;
-    for i in 0..vars {
-        if !var_formed(n, k, r, p, i) {
+    for i in 0..m.class.vars {
+        if !var_formed(m, p, i) {
             return false;
         }
     }
@@ -35,12 +35,13 @@ fn vars_formed(n: u8, k: Class, r: &[u8], p: u32) -> bool
 }
 
 // The entries in use; d is the row's depth.
-fn used_formed(n: u8, k: Class, r: &[u8], p: u32, d: u8) -> bool
-    requires { d ≡ depth_at r.now p k.vars }
-    ensures { result ≡ all_below d (entry_formed (row_from n k r.now p)) }
+#[tactic(auto, using(ground::proofs::Bounded::every))]
+fn used_formed(m: &Record, p: u32, d: u8) -> bool
+    requires { d ≡ depth_at m.now.bytes.now p m.now.class.vars }
+    ensures { result ≡ all_below d (entry_formed (row_in m.now p)) }
 {
     for j in 0..d {
-        if !entries::is_type(n, rows::stack_word(n, k, r, p, j)) {
+        if !entries::is_type(m.classes, rows::stack_word(m, p, j)) {
             return false;
         }
     }
@@ -48,16 +49,16 @@ fn used_formed(n: u8, k: Class, r: &[u8], p: u32, d: u8) -> bool
 }
 
 // .. and then those below them.
-fn stack_formed(n: u8, k: Class, r: &[u8], p: u32, d: u8) -> bool
-    requires { (d ≡ depth_at r.now p k.vars) × (d ≤ k.limit) }
-    ensures { result ≡ stack_formed k.limit (row_from n k r.now p) }
+#[tactic(auto, using(ground::proofs::Bounded::every), unfolding(crate::specs::Forms::stack_formed))]
+fn stack_formed(m: &Record, p: u32, d: u8) -> bool
+    requires { (d ≡ depth_at m.now.bytes.now p m.now.class.vars) × (d ≤ m.now.class.limit) }
+    ensures { result ≡ stack_formed m.now.class.limit (row_in m.now p) }
 {
-    if !used_formed(n, k, r, p, d) {
+    if !used_formed(m, p, d) {
         return false;
     }
-    let limit = k.limit;
-    for j in d..limit {
-        if !entries::is_blank(n, rows::stack_word(n, k, r, p, j)) {
+    for j in d..m.class.limit {
+        if !entries::is_blank(m.classes, rows::stack_word(m, p, j)) {
             return false;
         }
     }
@@ -65,30 +66,32 @@ fn stack_formed(n: u8, k: Class, r: &[u8], p: u32, d: u8) -> bool
 }
 
 // The depth and the stack of a row.
-fn rest_formed(n: u8, k: Class, r: &[u8], p: u32) -> bool
-    ensures { result ≡ rest_formed k.limit (row_from n k r.now p) }
+#[tactic(auto, using(ground::proofs::Tests::tests), unfolding(crate::specs::Columns::rest_formed))]
+fn rest_formed(m: &Record, p: u32) -> bool
+    ensures { result ≡ rest_formed m.now.class.limit (row_in m.now p) }
 {
-    let d = rows::depth_at(k, r, p);
-    if k.limit < d {
+    let d = rows::depth_at(m, p);
+    if m.class.limit < d {
         return false;
     }
-    stack_formed(n, k, r, p, d)
+    stack_formed(m, p, d)
 }
 
-fn row_from_formed(n: u8, k: Class, r: &[u8], p: u32) -> bool
-    ensures { result ≡ row_formed k.vars k.limit (row_from n k r.now p) }
+#[tactic(auto, using(crate::proofs::Columns::row_parts))]
+fn row_from_formed(m: &Record, p: u32) -> bool
+    ensures { result ≡ row_formed m.now.class.vars m.now.class.limit (row_in m.now p) }
 {
-    if !vars_formed(n, k, r, p) {
+    if !vars_formed(m, p) {
         return false;
     }
-    rest_formed(n, k, r, p)
+    rest_formed(m, p)
 }
 
-// Verdict 8 at address l of the method whose record is r, in a bundle of n classes.
-pub fn row_formed(n: u8, k: Class, r: &[u8], l: Addr) -> bool
-    ensures { result ≡ row_formed k.vars k.limit (row_at n k r.now l.0) }
+// Verdict 8 at address l of the method whose record is m.
+pub fn row_formed(m: &Record, l: Addr) -> bool
+    ensures { result ≡ row_formed m.now.class.vars m.now.class.limit (row_of m.now l.0) }
 {
-    row_from_formed(n, k, r, rows::row_start(k, l))
+    row_from_formed(m, rows::row_start(m.class, l))
 }
 
 // Whether w is a type, too, where the entries before it, the last of them `last`, are or not: an entry that stays is not asked again.
@@ -103,38 +106,37 @@ fn still_formed(n: u8, formed: bool, last: u32, w: u32) -> bool
 }
 
 // Variable i in every row.
-fn column_formed(n: u8, k: Class, r: &[u8], i: u8) -> bool
-    ensures { result ≡ column_formed n k r.now i }
+fn column_formed(m: &Record, i: u8) -> bool
+    ensures { result ≡ column_formed m.now.classes m.now.class m.now.bytes.now i }
 {
-    let code = k.code;
     let mut formed = true;
     let mut last = TOP_WORD;
-    for l in 0..code {
-        let w = rows::variable_word(n, k, r, rows::next_start(k, Addr(l)), i);
-        formed = still_formed(n, formed, last, w);
+    for l in 0..m.class.code {
+        let w = rows::variable_word(m, rows::next_start(m.class, Addr(l)), i);
+        formed = still_formed(m.classes, formed, last, w);
         last = w;
     }
     formed
 }
 
-fn columns_formed(n: u8, k: Class, r: &[u8]) -> bool
-    ensures { result ≡ all_below k.vars (column_formed n k r.now) }
+#[tactic(auto, using(ground::proofs::Bounded::every))]
+fn columns_formed(m: &Record) -> bool
+    ensures { result ≡ all_below m.now.class.vars (column_formed m.now.classes m.now.class m.now.bytes.now) }
 {
-    let vars = k.vars;
-    for i in 0..vars {
-        if !column_formed(n, k, r, i) {
+    for i in 0..m.class.vars {
+        if !column_formed(m, i) {
             return false;
         }
     }
     true
 }
 
-fn rests_formed(n: u8, k: Class, r: &[u8]) -> bool
-    ensures { result ≡ all_below k.code (rest_of n k r.now) }
+#[tactic(auto, using(ground::proofs::Bounded::every))]
+fn rests_formed(m: &Record) -> bool
+    ensures { result ≡ all_below m.now.class.code (rest_of m.now.classes m.now.class m.now.bytes.now) }
 {
-    let code = k.code;
-    for l in 0..code {
-        if !rest_formed(n, k, r, rows::next_start(k, Addr(l))) {
+    for l in 0..m.class.code {
+        if !rest_formed(m, rows::next_start(m.class, Addr(l))) {
             return false;
         }
     }
@@ -142,44 +144,46 @@ fn rests_formed(n: u8, k: Class, r: &[u8]) -> bool
 }
 
 // All rows of a method at once, their variables column by column: what follows an entry there is most often the same.
-pub fn rows_formed(n: u8, k: Class, r: &[u8]) -> bool
-    ensures { result ≡ rows_formed n k r.now }
+pub fn rows_formed(m: &Record) -> bool
+    ensures { result ≡ rows_formed m.now.classes m.now.class m.now.bytes.now }
 {
-    if !columns_formed(n, k, r) {
+    if !columns_formed(m) {
         return false;
     }
-    rests_formed(n, k, r)
+    rests_formed(m)
 }
 
-fn first_var(n: u8, k: Class, r: &[u8], p: u32, i: u8) -> bool
-    ensures { result ≡ first_var k.args (at r.now) (row_from n k r.now p) i }
+#[tactic(auto, using(ground::proofs::Tests::tests, crate::proofs::Columns::fits), unfolding(crate::specs::Forms::first_var))]
+fn first_var(m: &Record, p: u32, i: u8) -> bool
+    ensures { result ≡ first_var m.now.class.args (at m.now.bytes.now) (row_in m.now p) i }
 {
-    let w = rows::variable_word(n, k, r, p, i);
-    if i < k.args {
-        return entries::compare_argument(n, ground::byte(r, i as usize), w) == 0;
+    let w = rows::variable_word(m, p, i);
+    if i < m.class.args {
+        return entries::compare_argument(m.classes, ground::byte(m.bytes, i as usize), w).is_ok();
     }
-    entries::is_top(n, w)
+    entries::is_top(m.classes, w)
 }
 
-fn first_vars(n: u8, k: Class, r: &[u8], p: u32) -> bool
-    ensures { result ≡ first_vars k.vars k.args (at r.now) (row_from n k r.now p) }
+#[tactic(auto, using(ground::proofs::Bounded::every), unfolding(crate::specs::Forms::first_vars))]
+fn first_vars(m: &Record, p: u32) -> bool
+    ensures { result ≡ first_vars m.now.class.vars m.now.class.args (at m.now.bytes.now) (row_in m.now p) }
 {
-    let vars = k.vars;
-    for i in 0..vars {
-        if !first_var(n, k, r, p, i) {
+    for i in 0..m.class.vars {
+        if !first_var(m, p, i) {
             return false;
         }
     }
     true
 }
 
-// Row 1 of the method whose record is r.
-pub fn first_row(n: u8, k: Class, r: &[u8]) -> bool
-    ensures { result ≡ first_row k.vars k.args (at r.now) (row_at n k r.now 1) }
+// Row 1 of the method whose record is m.
+#[tactic(auto, using(ground::proofs::Tests::tests), unfolding(crate::specs::Forms::first_row))]
+pub fn first_row(m: &Record) -> bool
+    ensures { result ≡ first_row m.now.class.vars m.now.class.args (at m.now.bytes.now) (row_of m.now 1) }
 {
-    let p = rows::row_start(k, Addr(1));
-    if rows::depth_at(k, r, p) != 0 {
+    let p = rows::row_start(m.class, Addr(1));
+    if rows::depth_at(m, p) != 0 {
         return false;
     }
-    first_vars(n, k, r, p)
+    first_vars(m, p)
 }

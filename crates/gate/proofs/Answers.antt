@@ -1,32 +1,32 @@
 -- The gate's answers: what `lay` gives in 65,536 bytes, what `fill` makes of it, what is handed over; and that one call has one answer.
 use mathlib.Core.List.{List, ◌++◌}
 use mathlib.Core.Path.{◌≡◌, refl, sym, ap, ap₂, ◌∙◌}
-use mathlib.Core.Bool.{Bool, true, false, not}
+use mathlib.Core.Bool.{Bool, true, false}
 use mathlib.Core.Logic.{◌≢◌}
 use Prim.Native.Nat.{ℕ, ◌+◌, ◌≤◌, ◌<◌}
 use native.Mathlib.Omega.{arith}
 use lib.Dec.{leb, ltb}
-use lib.ListN.{length, take, drop}
+use lib.ListN.{length, take, drop, length-append}
 use lib.Seq.{take_at, length-take-le}
-use borrow.Author.Tests.{le-leb, lt-ltb, leb-true, leb-false, ltb-true, ne_eqb, eq-eqb}
+use borrow.Author.Tests.{le-leb, lt-ltb, leb-true, leb-false, ltb-true}
+use Rattle.std.specs.Prelude.{Ok, Err}
 use Rattle.ground.specs.Chain.{refuse}
-use Rattle.ground.proofs.Bools.{never, passed, failed}
+use Rattle.ground.proofs.Bools.{never}
 use Rattle.ground.proofs.Chain.{tested}
-use Rattle.structure.specs.declared.Verdict.{Verdict}
-use Rattle.structure.specs.Verdicts.{verdict}
+use Rattle.verdicts.specs.declared.Refusal.{Refusal}
+use Rattle.verdicts.specs.Verdicts.{verdict}
+use Rattle.verdicts.specs.Numbers.{numbers}
+use Rattle.verdicts.proofs.Numbers as known
 use Rattle.pairs.specs.Answer.{Answer}
 use Rattle.pairs.proofs.Works.{one_answer}
-use Rattle.laying.specs.declared.Layout.{Layout}
 use Rattle.laying.specs.Given.{Given}
 use Rattle.laying.specs.Lengths.{whole}
 use Rattle.laying.specs.Laid.{laid}
-use Rattle.laying.specs.Laying.{over, put_in, measured, layout_of, laid_in}
+use Rattle.laying.specs.Laying.{Layout, over, put_in, measured, layout_of, layout_in, laid_in, nameless}
 use Rattle.laying.specs.Loops.{Measured}
 use Rattle.laying.proofs.Lengths.{laid-long}
 use Rattle.laying.proofs.Lengths as lengths
-use Rattle.gate.specs.Gate.{refusal_of, unlaid, refused, short, written, packed, Gives, OneGate, OneNumber}
-use Rattle.gate.specs.Steps.{Handed}
-use Rattle.gate.specs.Steps as steps
+use Rattle.gate.specs.Gate.{Gate, refusal_of, unlaid, refused, short, written, packed, OneGate, OneNumber}
 
 module _ (g : Given) where
   abbrev w : ℕ
@@ -46,11 +46,11 @@ module _ (g : Given) where
       let d = tested (ltb g.exception g.classes) 2 0 b.1 in
       record { lengths = a.0; short = leb-true w 65535 b.0; exception = ltb-true g.exception g.classes d.0 }
 
-  pub all-measured : refusal_of g ≡ 0 → Measured g.classes g.directory g.descriptors g.instructions g.kinds g.depths
-  all-measured e = lengths.measured g.classes g.directory g.descriptors g.instructions g.kinds g.depths (fit e).lengths
+  pub all-measured : refusal_of g ≡ 0 → Measured g
+  all-measured e = lengths.measured g (fit e).lengths
 
   pub long : refusal_of g ≡ 0 → length (laid g) ≡ w
-  long e = laid-long (all-measured e) g.exception
+  long e = laid-long (all-measured e)
 
   lay-number : (layout_of g 65536).number ≡ refusal_of g
   unfolding layout_of refusal_of refuse
@@ -73,68 +73,68 @@ module _ (g : Given) where
         le-leb w 65536 (omega arith),
       )
 
-module _ (g : Given) (out : List ℕ) (l : Layout) (b : List ℕ) (h : length b ≡ 65536) (e : l ≡ layout_of g (length b)) where
-  numbered : l.number ≡ refusal_of g
-  numbered = ap (λ (x : Layout). x.number) e ∙ rw h (lay-number g)
+-- a refusal's number isn't 0
+bad-number : (r : Refusal) → (numbers r).number ≢ 0
+bad-number r z = never (known.refused r) (rw z)
 
-  pub gives-unlaid : l.number ≢ 0 → Gives g out l.number out
-  gives-unlaid f =
-      record {
-        verdict = verdict (refusal_of g) 0 0;
-        written = 0;
-        gate = unlaid (rw (← numbered) f);
-        number = omega (arith, numbered);
-      }
+-- what `lay` gives in b, and leaves in it
+module _ (g : Given) (out b : List ℕ) (h : length b ≡ 65536) where
+  pub gate-unlaid : (r : Refusal) → layout_in (Err r) ≡ layout_of g (length b) → nameless (Err r) → Gate g out (numbers r) 0 out
+  gate-unlaid r e f =
+      let k : (numbers r).number ≡ refusal_of g = ap (λ (x : Layout). x.number) e ∙ rw h (lay-number g) in
+      let u : Gate g out (verdict (refusal_of g) 0 0) 0 out = unlaid (λ z. bad-number r (k ∙ z)) in
+      rw f (rw k u)
 
-  module _ (z : l.number ≡ 0) where
+  module _ (n : ℕ) (e : layout_in (Ok n) ≡ layout_of g (length b)) where
     laid-now : refusal_of g ≡ 0
-    laid-now = sym numbered ∙ z
+    laid-now = sym (ap (λ (x : Layout). x.number) e ∙ rw h (lay-number g))
 
-    pub the-length : l.length ≡ w g
+    the-length : n ≡ w g
     the-length = ap (λ (x : Layout). x.length) e ∙ rw h (lay-length g laid-now)
 
-    pub short-enough : (l.length ≤ 65535) × (l.length ≤ 65536)
-    short-enough = let f = fit g laid-now in (omega (arith, the-length, f.short), omega (arith, the-length, f.short))
+    pub short-enough : n ≤ 65535
+    short-enough = omega (arith, the-length, (fit g laid-now).short)
+
+    pub in-b : (b₁ : List ℕ) → length b₁ ≡ length b → n ≤ length b₁
+    in-b b₁ k = omega (arith, short-enough)
 
     module _ (b₁ : List ℕ) (i : b₁ ≡ laid_in g b) where
-      front : take l.length b₁ ≡ laid g
+      -- what is filled is the bundle
+      front : take n b₁ ≡ laid g
       unfolding laid_in over refuse
       front =
           rw (i, h, lay-number g, laid-now)
-          (take_at (laid g) (drop (0 + length (laid g)) b) l.length (long g laid-now ∙ sym the-length))
+          (take_at (laid g) (drop (0 + length (laid g)) b) n (long g laid-now ∙ sym the-length))
 
-      module _ (v : Verdict) (x : List ℕ) (a : Answer (take l.length b₁) v x) where
-        answer : Answer (laid g) v x
-        answer = rw front at a
+      pub gate-refused : (r : Refusal) (x : List ℕ) → Answer (take n b₁) (numbers r) x → Gate g out (numbers r) 0 out
+      gate-refused r x a = refused laid-now (rw front at a) (known.refused r)
 
-        pub gives-refused : (r : ℕ) → v.number ≢ 0 → r ≡ packed v 0 → Gives g out r out
-        gives-refused r f p = record { verdict = v; written = 0; gate = refused laid-now answer (rw (ne_eqb v.number 0 f)); number = p }
+      module _ (c : ℕ) (x : List ℕ) (a : Answer (take n b₁) (verdict 0 c 0) x) (y : List ℕ) (f : y ≡ x) (t : Bool) (o : List ℕ) (q : t ≡ leb (length y) (length out)) (p : o ≡ put_in y out) where
+        pub gate-short : t ≡ false → Gate g out (verdict 24 0 0) 0 o
+        unfolding put_in refuse
+        gate-short z =
+            let l : leb (length x) (length out) ≡ false = rw (← f, ← q) z in
+            let k : o ≡ out = rw (f, l) at p in
+            rw k (short laid-now (rw front at a) refl (leb-false (length x) (length out) l))
 
-        pub gives-handed : (r : ℕ) (out' : List ℕ) → v.number ≡ 0 → Handed x v out r out' → Gives g out r out'
-        gives-handed r out' f (steps.short k) =
-            record { verdict = verdict 24 0 0; written = 0; gate = short laid-now answer (rw (eq-eqb v.number 0 f)) k; number = refl }
-        gives-handed r out' f (steps.whole k p q) =
-            record { verdict = v; written = length x; gate = rw q (written laid-now answer (rw (eq-eqb v.number 0 f)) k); number = p }
+        pub gate-written : length x ≡ n → t ≡ true → Gate g out (verdict 0 c 0) n o
+        unfolding put_in over refuse
+        gate-written m z =
+            let l : leb (length x) (length out) ≡ true = rw (← f, ← q) z in
+            let j : 0 + length x ≡ length x = omega arith in
+            let k : o ≡ x ++ drop (length x) out = rw (f, l, j) at p in
+            rw (k, ← m) (written laid-now (rw front at a) refl (leb-true (length x) (length out) l))
 
--- ---- the code's steps
--- the first n bytes, filled, and what lies behind them
-pub first-filled : (b p : List ℕ) (n : ℕ) (v : Verdict) → n ≤ length b → length p ≡ length (take n b) → Answer (take n b) v p → Answer (take n b) v (take n (p ++ drop n b))
-first-filled b p n v h k a = rw (take_at p (drop n b) n (k ∙ length-take-le n b h)) a
+-- the first n bytes of b, filled, are x; what lies behind them is as it was
+module _ (b x : List ℕ) (n : ℕ) (l : n ≤ length b) (k : length x ≡ length (take n b)) where
+  pub filled-long : length x ≡ n
+  filled-long = k ∙ length-take-le n b l
 
-module _ (x : List ℕ) (v : Verdict) (out : List ℕ) (t : Bool) (o : List ℕ) (e : t ≡ leb (length x) (length out)) (q : o ≡ put_in x out) where
-  pub handed-short : not t ≡ true → Handed x v out 24 o
-  unfolding put_in refuse
-  handed-short f =
-      let l : leb (length x) (length out) ≡ false = failed e f in
-      let p : o ≡ out = rw l at q in
-      rw p (steps.short (leb-false (length x) (length out) l))
+  pub filled-room : n ≤ length (x ++ drop n b)
+  filled-room = omega (arith, length-append x (drop n b), filled-long)
 
-  pub handed-whole : (r n : ℕ) → not t ≡ false → length x ≡ n → r ≡ packed v n → Handed x v out r o
-  unfolding put_in over refuse
-  handed-whole r n f m p =
-      let l : leb (length x) (length out) ≡ true = passed e f in
-      let z : 0 + length x ≡ length x = omega arith in
-      steps.whole (leb-true (length x) (length out) l) (rw (← m) at p) (rw (l, z) at q)
+  pub filled-first : take n (x ++ drop n b) ≡ x
+  filled-first = take_at x (drop n b) n filled-long
 
 -- THEOREM: one call has one answer
 pub one-gate : OneGate

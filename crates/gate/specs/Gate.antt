@@ -1,8 +1,8 @@
 -- Document 02, Q-12: what the gate gives, and what the output holds then.
 use Rattle.std.specs.Prelude.{List, ◌++◌, ◌≡◌, true, false, ◌≢◌, ℕ, ◌+◌, ◌*◌, ◌≤◌, ◌<◌, leb, ltb, length, drop}
 use Rattle.ground.specs.Chain.{refuse}
-use Rattle.structure.specs.declared.Verdict.{Verdict}
-use Rattle.structure.specs.Verdicts.{verdict, is_bad}
+use Rattle.verdicts.specs.declared.Verdict.{Verdict}
+use Rattle.verdicts.specs.Verdicts.{verdict, is_bad}
 use Rattle.pairs.specs.Answer.{Answer}
 use Rattle.laying.specs.Given.{Given}
 use Rattle.laying.specs.Lengths.{whole}

@@ -1,8 +1,14 @@
--- No promise speaks of this: how the code hands a finished bundle x over, with fill's verdict v on it.
-use Rattle.std.specs.Prelude.{List, ◌++◌, ◌≡◌, ℕ, ◌≤◌, ◌<◌, length, drop}
-use Rattle.structure.specs.declared.Verdict.{Verdict}
-use Rattle.gate.specs.Gate.{packed}
+-- No promise speaks of this: what the code gives, the class count and how many bytes are written or a refusal, as a verdict and a length.
+use Rattle.std.specs.Prelude.{ℕ, Result, Ok, Err}
+use Rattle.verdicts.specs.declared.Refusal.{Refusal}
+use Rattle.verdicts.specs.declared.Verdict.{Verdict}
+use Rattle.verdicts.specs.Numbers.{numbers}
+use Rattle.verdicts.specs.Verdicts.{verdict}
 
-pub data Handed (x : List ℕ) (v : Verdict) (out : List ℕ) : ℕ → List ℕ → Type 0 where
-  short : length out < length x → Handed x v out 24 out
-  whole : {r : ℕ} {out' : List ℕ} → length x ≤ length out → r ≡ packed v (length x) → out' ≡ x ++ drop (length x) out → Handed x v out r out'
+abbrev pub verdict_in : Result (ℕ × ℕ) Refusal → Verdict
+verdict_in (Ok p) = verdict 0 p.0 0
+verdict_in (Err r) = numbers r
+
+abbrev pub written_in : Result (ℕ × ℕ) Refusal → ℕ
+written_in (Ok p) = p.1
+written_in (Err _) = 0

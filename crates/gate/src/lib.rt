@@ -1,13 +1,13 @@
 // Document 02, Q-12: the weaver's gate: what is given is laid out as a bundle, its pairs are filled, and what is accepted is written.
 #![tactic(auto)]
 
-ghost use Rattle.std.specs.Prelude.{◌≡◌, ◌≤◌, length, take};
-ghost use Rattle.pairs.specs.Answer.{Answer};
-ghost use Rattle.laying.specs.Given.{given};
-ghost use Rattle.gate.specs.Gate.{packed, Gives};
-ghost use Rattle.gate.specs.Steps.{Handed};
+ghost use Rattle.std.specs.Prelude.{◌≡◌, ◌≤◌, length};
+ghost use Rattle.laying.specs.Given.{given, given_of};
+ghost use Rattle.gate.specs.Gate.{packed, Gate, Gives};
+ghost use Rattle.gate.specs.Steps.{verdict_in, written_in};
 
-use structure::Verdict;
+use laying::Parts;
+use verdicts::{Refusal, Verdict};
 
 fn pack(v: Verdict, n: usize) -> u64
     requires { n ≤ 65535 }
@@ -16,58 +16,18 @@ fn pack(v: Verdict, n: usize) -> u64
     v.number as u64 + 256 * (v.class as u64) + 65536 * (v.address as u64) + 4294967296 * (n as u64)
 }
 
-// The bundle is in the first n bytes.
-fn fill_first(b: &mut [u8], n: usize) -> Verdict
-    requires { n ≤ length b.old }
-    ensures { Answer (take n b.old) result (take n b.new) }
-{
-    pairs::fill(&mut b[..n])
-}
-
-fn hand_over(b: &[u8], n: usize, v: Verdict, out: &mut [u8]) -> u64
-    requires { (n ≤ 65535) × (n ≤ length b.now) }
-    ensures { Handed (take n b.now) v out.old result out.new }
-{
-    if !laying::put(&b[..n], out) {
-        return 24;
-    }
-    pack(v, n)
-}
-
-// b is lent to work in: every refusal leaves the output as it came.
-fn gate_in(
-    classes: u32,
-    exception: u32,
-    directory: &[u8],
-    descriptors: &[u8],
-    instructions: &[u8],
-    kinds: &[u8],
-    depths: &[u8],
-    b: &mut [u8],
-    out: &mut [u8],
-) -> u64
+// The class count, and how many bytes are written; b is lent to work in, and every refusal leaves the output as it came.
+fn gate_in(parts: &Parts, b: &mut [u8], out: &mut [u8]) -> Result<(u8, usize), Refusal>
     requires { length b.old ≡ 65536 }
-    ensures { Gives (given classes exception directory.now descriptors.now instructions.now kinds.now depths.now) out.old result out.new }
+    ensures gate { Gate (given_of parts.now) out.old (verdict_in result) (written_in result) out.new }
+    ensures short { written_in result ≤ 65535 }
 {
-    let l = laying::lay(
-        classes,
-        exception,
-        directory,
-        descriptors,
-        instructions,
-        kinds,
-        depths,
-        b,
-    );
-    if l.number != 0 {
-        return l.number as u64;
+    let n = laying::lay(parts, b)?;
+    let classes = pairs::fill(&mut b[..n])?;
+    if !laying::put(&b[..n], out) {
+        return Err(Refusal::Room);
     }
-    let n = l.length;
-    let v = fill_first(b, n);
-    if v.number != 0 {
-        return pack(v, 0);
-    }
-    hand_over(b, n, v, out)
+    Ok((classes, n))
 }
 
 // The verdict's number in the low byte, the class in the next, the address in the two above, the written length in the upper half (0 on a refusal).
@@ -84,8 +44,7 @@ pub fn hveitmar_gate(
 ) -> u64
     ensures { Gives (given classes exception directory.now descriptors.now instructions.now kinds.now depths.now) out.old result out.new }
 {
-    let mut b = [0u8; 65536];
-    gate_in(
+    let parts = Parts {
         classes,
         exception,
         directory,
@@ -93,7 +52,10 @@ pub fn hveitmar_gate(
         instructions,
         kinds,
         depths,
-        &mut b,
-        out,
-    )
+    };
+    let mut b = [0u8; 65536];
+    match gate_in(&parts, &mut b, out) {
+        Ok((count, n)) => pack(verdicts::in_numbers(Ok(count)), n),
+        Err(refusal) => pack(refusal.numbers(), 0),
+    }
 }

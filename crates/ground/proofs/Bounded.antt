@@ -7,7 +7,9 @@ use native.Mathlib.Nat.{le_of_suc-le-suc, not-suc-le-zero, eq-or-lt_of_le, le_an
 use native.Mathlib.Numerals.{add-one}
 use native.Mathlib.Omega.{arith}
 use native.Mathlib.Decide.{ℕ_discrete, dec_lt}
-use Rattle.ground.specs.Bounded.{all_below, first_below, count_below}
+use Rattle.std.specs.Prelude.{Option, Some, None}
+use Rattle.std.specs.Option.{unwrap_or}
+use Rattle.ground.specs.Bounded.{Told, all_below, first_below, count_below}
 use Rattle.ground.proofs.Bools.{and-fst, and-snd, and-false, never}
 
 module _ (p : ℕ → Bool) where
@@ -29,6 +31,10 @@ module _ (p : ℕ → Bool) where
   -- a turn that returns early, and the loop's end
   pub all_left : (n i : ℕ) → i < n → p i ≡ false → false ≡ all_below n p
   all_left n i l e = sym (all-stop n i l e)
+
+  -- .. where all before it held
+  pub all_refused : (n i : ℕ) → i < n → all_below i p ≡ true → p i ≡ false → false ≡ all_below n p
+  all_refused n i l a e = all_left n i l e
 
   pub all_done : (n i : ℕ) → i ≤ n → n ≤ i → all_below i p ≡ true → true ≡ all_below n p
   all_done n i l k a = sym (subst (λ (m : ℕ). all_below m p ≡ true) (le_antisymm l k) a)
@@ -179,3 +185,11 @@ module _ (p : ℕ → Bool) where
       go : Dec (i ≡ suc n) → (i ≤ n → count_below i p ≤ count_below n p) → count_below i p ≤ count_below n p + cond (p n) 1 0
       go (yes q) ih = rw q (omega arith)
       go (no q) ih = omega (arith, ih (omega arith))
+
+-- what a loop that asks p of each number in turn asks: `using(ground::proofs::Bounded::every)`
+pub ruleset every = (all-zero, all_more, all_refused, all_done)
+
+-- what a search tells, and n where it finds nothing, is its number
+pub told_or : (n k : ℕ) (r : Option ℕ) → Told n k r → unwrap_or r n ≡ k
+told_or n k (Some i) h = h.1
+told_or n k None h = h

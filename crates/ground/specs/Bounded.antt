@@ -1,5 +1,5 @@
 -- Tests, searches, sums and writes over the numbers below a bound.
-use Rattle.std.specs.Prelude.{List, Bool, true, cond, ◌&&◌, ℕ, zero, suc, ◌+◌, set}
+use Rattle.std.specs.Prelude.{List, Bool, true, cond, ◌&&◌, ℕ, zero, suc, ◌+◌, ◌<◌, ◌≡◌, set, Option, Some, None}
 
 -- p holds of every number below n
 unfoldable pub all_below : ℕ → (ℕ → Bool) → Bool
@@ -10,6 +10,11 @@ all_below (suc n) p = all_below n p && p n
 unfoldable pub first_below : ℕ → (ℕ → Bool) → ℕ
 first_below zero p = 0
 first_below (suc n) p = cond (p 0) 0 (suc (first_below n (λ i. p (suc i))))
+
+-- the number k of a search below n, which is n where nothing is found, as the code tells it
+abbrev pub Told : ℕ → ℕ → Option ℕ → Type 0
+Told n k (Some i) = (i < n) × (i ≡ k)
+Told n k None = n ≡ k
 
 -- of how many numbers below n p holds
 unfoldable pub count_below : ℕ → (ℕ → Bool) → ℕ

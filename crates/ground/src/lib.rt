@@ -47,5 +47,5 @@ pub fn quad(s: &[u8], i: usize) -> u32
 pub fn back(s: &[u8], n: usize) -> usize
     ensures { result ≡ length s.now - n }
 {
-    if s.len() < n { 0 } else { s.len() - n }
+    s.len().saturating_sub(n)
 }

@@ -15,7 +15,7 @@ use Rattle.verifier.proofs.FirstBroken.{agrees_back}
 use Rattle.threads.specs.declared.Thread.{Thread}
 use Rattle.threads.specs.Threads.{idle}
 use Rattle.state.specs.declared.State.{State}
-use Rattle.state.specs.State.{thread_at, count_of, empty_state}
+use Rattle.state.specs.State.{count_of, empty_state}
 use Rattle.turns.specs.Moves.{first_fields}
 use Rattle.machine.specs.Machine.{main_thread, fresh_state, readable, fresh_of}
 use Rattle.machine.specs.Runs.{Step, after, run, reached}

@@ -12,7 +12,7 @@ use Rattle.values.specs.declared.Slot.{Slot}
 use Rattle.values.specs.Values.{is_ref_value, is_ref, is_null_value, is_null, object_of_value, object_of}
 use Rattle.threads.specs.declared.Thread.{Thread}
 use Rattle.threads.specs.Threads.{var_of}
-use Rattle.history.specs.declared.Object.TheVariants.{None, One}
+use Rattle.history.specs.Met.{None, One}
 use Rattle.history.specs.Event.{Event}
 use Rattle.history.specs.Reading.{starts, ends, enters, exits}
 use Rattle.history.specs.Meeting.{object_in, object_met, meeting}

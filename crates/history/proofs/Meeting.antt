@@ -13,12 +13,12 @@ use Rattle.threads.specs.declared.Thread.{Thread}
 use Rattle.state.specs.declared.State.{State}
 use Rattle.state.specs.State.{thread_at}
 use Rattle.machine.proofs.Refusals.{instruction_here}
-use Rattle.history.specs.declared.Object.{Object}
+use Rattle.history.specs.Met.{Object}
 use Rattle.history.specs.Meeting.{object_met, code_here, instruction_met, met_of}
 
 module _ (b : List ℕ) (s : State) (i : ℕ) where
   pub met-is : {t : Thread} {k : Class} {r : List ℕ} {x : Code} {o : Object} → t ≡ thread_at s i → not t.live ≡ false
-      → k ≡ class_at b t.class → r ≡ part_of b k → x ≡ code_at k r t.at.0 → o ≡ object_met t x
+      → k ≡ class_at b t.class → r ≡ part_of b (class_at b t.class) → x ≡ code_at k r t.at.0 → o ≡ object_met t x
       → record { instruction = x; object = o } ≡ met_of b s i
   unfolding instruction_met code_here
   met-is et el ek er ex eo = rw (passed (ap (λ (t : Thread). t.live) et) el, eo, ex, er, ek, et)

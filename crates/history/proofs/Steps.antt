@@ -21,7 +21,7 @@ use Rattle.threads.specs.Threads.{idle, from_top, top_of, var_of, with_at, toppe
 use Rattle.state.specs.declared.State.{State}
 use Rattle.state.specs.State.{thread_at, count_of, with_thread, with_count, with_field, with_object, lowest_free}
 use Rattle.belongs.proofs.Belongs.{Placed, Belongs, refers-object}
-use Rattle.turns.specs.declared.Stepped.{Stepped}
+use Rattle.turns.specs.Stepped.{Stepped}
 use Rattle.turns.specs.Answers.{refused}
 use Rattle.turns.specs.Faults.{lock_of, enter_fault, exit_fault, new_fails, fault_of}
 use Rattle.turns.specs.Waits.{start_wait, wait_of}

@@ -1,7 +1,7 @@
 -- Document 02, Q-2: "the history: each step, its answer, and the instruction and object it met".
 use Rattle.std.specs.Prelude.{Bool, ℕ, eqb}
 use Rattle.instructions.specs.declared.Code.{Code}
-use Rattle.history.specs.declared.Met.{Met}
+use Rattle.history.specs.Met.{Met}
 
 -- one step of the history. That the step said "new fails" is dropped; the theorem is the stronger for it, since both numbers are taken without it
 pub record Event : Type 0 where

@@ -3,7 +3,7 @@ use Rattle.std.specs.Prelude.{List, [], ◌∷◌, ℕ}
 use Rattle.state.specs.declared.State.{State}
 use Rattle.machine.specs.Machine.{fresh_of}
 use Rattle.machine.specs.Runs.{Step, answer, after}
-use Rattle.history.specs.declared.Met.{Met}
+use Rattle.history.specs.Met.{Met}
 use Rattle.history.specs.Event.{Event}
 use Rattle.history.specs.Meeting.{met_of}
 

@@ -1,3 +1,4 @@
+pub mod Met
 pub mod Event
 pub mod Reading
 pub mod Meeting

@@ -8,9 +8,7 @@ use Rattle.threads.specs.declared.Thread.{Thread}
 use Rattle.threads.specs.Threads.{var_of}
 use Rattle.state.specs.declared.State.{State}
 use Rattle.state.specs.State.{thread_at}
-use Rattle.history.specs.declared.Object.{Object}
-use Rattle.history.specs.declared.Object.TheVariants.{None, One}
-use Rattle.history.specs.declared.Met.{Met}
+use Rattle.history.specs.Met.{Object, None, One, Met}
 use Rattle.history.specs.Event.{is_enter, is_exit}
 
 -- the object that a value refers to; null is none, least of all object 0

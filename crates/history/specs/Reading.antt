@@ -1,8 +1,7 @@
 -- Document 02, Q-2: "both numbers are taken from the history". What the events alone say: who is live, a thread's events since it started, its monitorenters and monitorexits on an object. Nothing here looks at a state.
 use Rattle.std.specs.Prelude.{Bool, true, false, cond, not, ◌&&◌, ◌||◌, List, [], ◌∷◌, reverse, ℕ, ◌+◌, eqb, get_or, set, replicate}
 use Rattle.ground.specs.Bounded.{first_below}
-use Rattle.history.specs.declared.Object.{Object}
-use Rattle.history.specs.declared.Object.TheVariants.{None, One}
+use Rattle.history.specs.Met.{Object, None, One}
 use Rattle.history.specs.Event.{Event, is_enter, is_exit, is_start}
 
 -- ---- one event

@@ -2,6 +2,7 @@
 #![tactic(auto)]
 
 ghost use Rattle.std.specs.Prelude.{◌≡◌};
+ghost use Rattle.history.specs.Met.{object_answered, met_in};
 ghost use Rattle.history.specs.Meeting.{object_in, object_met, met_of};
 
 use instructions::{Code, Var};
@@ -9,42 +10,34 @@ use state::State;
 use threads::Thread;
 use values::{Slot, Value};
 
-#[derive(Clone, Copy)]
-pub enum Object {
-    None,
-    One(u8),
-}
-
 // The instruction as its four bytes; four zeros are none.
 #[derive(Clone, Copy)]
 pub struct Met {
     pub instruction: Code,
-    pub object: Object,
+    pub object: Option<u8>,
 }
 
-fn object_in(x: Slot) -> Object
-    ensures { result ≡ object_in x.value }
+fn object_in(x: Slot) -> Option<u8>
+    ensures { object_answered result ≡ object_in x.value }
 {
-    let v = x.value;
-    match v {
-        Value::Int(_) => Object::None,
-        Value::Ref(o) => Object::One(o),
-        Value::Null => Object::None,
+    match x.value {
+        Value::Ref(o) => Some(o),
+        Value::Int(_) | Value::Null => None,
     }
 }
 
-fn object_met(t: Thread, x: Code) -> Object
-    ensures { result ≡ object_met t x }
+fn object_met(t: Thread, x: Code) -> Option<u8>
+    ensures { object_answered result ≡ object_met t x }
 {
     if (x.opcode == 7) | (x.opcode == 8) {
         return object_in(threads::var(t, Var(x.operand)));
     }
-    Object::None
+    None
 }
 
 // Of a step of this thread in this state; it changes nothing, and judges neither bundle nor state: that is the step's.
 pub fn meets(b: &[u8], s: State, thread: u8) -> Met
-    ensures { result ≡ met_of b.now s thread }
+    ensures { met_in result ≡ met_of b.now s thread }
 {
     let t = state::thread(s, thread);
     if !t.live {
@@ -54,12 +47,11 @@ pub fn meets(b: &[u8], s: State, thread: u8) -> Met
                 operand: 0,
                 address: 0,
             },
-            object: Object::None,
+            object: None,
         };
     }
-    let k = bundle::class_at(b, t.class);
-    let r = bundle::part_of(b, k);
-    let x = bundle::code_at(k, r, t.at);
+    let m = bundle::record_at(b, t.class);
+    let x = m.code_at(t.at);
     Met {
         instruction: x,
         object: object_met(t, x),

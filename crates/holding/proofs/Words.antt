@@ -17,7 +17,7 @@ use Rattle.state.specs.declared.State.{State}
 use Rattle.state.specs.State.{thread_at, count_of, word_of}
 use Rattle.belongs.specs.Belongs.{state_ok}
 use Rattle.belongs.proofs.Belongs.{belongs-elim}
-use Rattle.turns.specs.declared.Stepped.{Stepped}
+use Rattle.turns.specs.Stepped.{Stepped}
 use Rattle.turns.specs.Answers.{unless}
 use Rattle.turns.specs.Exec.{run_of}
 use Rattle.machine.specs.Machine.{readable, fresh_of, step_of}

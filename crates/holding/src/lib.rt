@@ -1,45 +1,30 @@
 // The question of document 02, Q-4: how many objects a thread holds, answered from its held word.
 #![tactic(auto)]
 
-ghost use Rattle.std.specs.Prelude.{◌≡◌};
-ghost use Rattle.holding.specs.Question.{refused, held_of};
+ghost use Rattle.std.specs.Prelude.{◌≡◌, ◌≤◌, IfErr};
+ghost use Rattle.turns.specs.Numbers.{answer_number};
+ghost use Rattle.holding.specs.Question.{held_of, holding_in};
 
 use state::State;
+use turns::Answer;
 
-// 0 with the number of objects, or 17, 18 or 5 with 0.
-#[derive(Clone, Copy)]
-pub struct Holding {
-    pub answer: u8,
-    pub number: u8,
-}
-
-fn refused(answer: u8) -> Holding
-    ensures { result ≡ refused answer }
+// The number of objects, or 17, 18 or 5 as a step draws them.
+pub fn held(b: &[u8], s: State, thread: u8) -> Result<u8, Answer>
+    ensures number { holding_in result ≡ held_of b.now s thread }
+    ensures refusal { IfErr result (λ a. 5 ≤ answer_number a) }
 {
-    Holding {
-        answer: answer,
-        number: 0,
-    }
-}
-
-pub fn held(b: &[u8], s: State, thread: u8) -> Holding
-    ensures { result ≡ held_of b.now s thread }
-{
-    if structure::structure(b).number != 0 {
-        return refused(17);
+    if structure::structure(b).is_err() {
+        return Err(Answer::BadBundle);
     }
     if !belongs::state_ok(b, s) {
-        return refused(18);
+        return Err(Answer::BadState);
     }
     if 8 <= thread {
-        return refused(5);
+        return Err(Answer::NotLive);
     }
     let k = thread as usize;
     if !s.threads[k].live {
-        return refused(5);
+        return Err(Answer::NotLive);
     }
-    Holding {
-        answer: 0,
-        number: held::bits_set(s.held[k]),
-    }
+    Ok(held::bits_set(s.held[k]))
 }

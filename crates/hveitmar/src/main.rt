@@ -3,29 +3,13 @@
 
 use std::io;
 use std::process::ExitCode;
-use structure::Verdict;
+use verdicts::Refusal;
 
-fn print_accepted(rt: &impl Print, classes: u8) -> io::Result<()> {
-    println!(rt; "accepted classes {classes}")
-}
-
-// Why the rule fails is told for verdict 9 only.
-fn print_refused(rt: &impl Print, v: Verdict) -> io::Result<()> {
-    let number = v.number;
-    let class = v.class;
-    let address = v.address;
-    if number == 9 {
-        let why = v.why;
-        return println!(rt; "refused {number} class {class} address {address} why {why}");
+fn print_verdict(rt: &impl Print, judged: Result<u8, Refusal>) -> io::Result<()> {
+    match judged {
+        Ok(classes) => println!(rt; "accepted classes {classes}"),
+        Err(refusal) => println!(rt; "{refusal}"),
     }
-    println!(rt; "refused {number} class {class} address {address}")
-}
-
-fn print_verdict(rt: &impl Print, v: Verdict) -> io::Result<()> {
-    if v.number == 0 {
-        return print_accepted(rt, v.class);
-    }
-    print_refused(rt, v)
 }
 
 // The buffer is one byte longer than any bundle: input that fills it draws verdict 1.

@@ -16,7 +16,7 @@ fn follow(out: &mut impl Write, b: &[u8], start: State, schedule: &[u8]) -> io::
         let thread = *turn & 15;
         let fails = 128 <= *turn;
         let r = machine::step(b, s, thread, fails);
-        print::step_line(out, i + 1, thread, r.answer, fails)?;
+        print::step_line(out, i + 1, thread, r.answer.number(), fails)?;
         s = r.state;
     }
     print::state_lines(out, s)
@@ -30,7 +30,7 @@ fn trace(out: &mut impl Write, s: &[u8]) -> io::Result<()> {
         return follow(out, b, decode::state(s), schedule);
     }
     let r = machine::fresh(b);
-    print::fresh_line(out, r.answer)?;
+    print::fresh_line(out, r.answer.number())?;
     follow(out, b, r.state, schedule)
 }
 

@@ -5,27 +5,9 @@ use std::io::Write;
 use threads::Thread;
 use values::Slot;
 
-// An integer by its 32 bits.
-fn put_integer(out: &mut impl Write, w: u32) -> io::Result<()> {
-    if w < 2147483648 {
-        return write!(out, " i{w}");
-    }
-    write!(out, " i-{}", 4294967296 - (w as u64))
-}
-
-fn put_place(out: &mut impl Write, x: Slot) -> io::Result<()> {
-    if values::is_int(x) {
-        return put_integer(out, values::bits_of(x));
-    }
-    if values::is_null(x) {
-        return write!(out, " null");
-    }
-    write!(out, " r{}", values::object_of(x))
-}
-
 fn put_places(out: &mut impl Write, places: &[Slot]) -> io::Result<()> {
     for place in places {
-        put_place(out, *place)?;
+        write!(out, " {place}")?;
     }
     Ok(())
 }

@@ -36,6 +36,7 @@ pub fn read<R: Read>(reader: &mut R, buf: &mut [u8]) -> Input
     ensures end { IsNone result.failed → result.count < length buf.new → IsAtEnd (R.remaining reader.new) }
 {
     let mut done = 0;
+    // How far a read goes is the reader's to say, so no range counts the turns.
     while done < buf.len() {
         match read_more(reader, buf, done) {
             Ok(0) => {

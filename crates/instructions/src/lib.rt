@@ -6,7 +6,7 @@ ghost use Rattle.instructions.specs.Table.{line_of, decoded, table_ok, last_ok, 
 ghost use Rattle.instructions.specs.Limits.{operand_limit, address_reach};
 
 // An address of a method, from 1; as a handler, 0 is none.
-#[derive(Clone, Copy)]
+#[derive(Clone, Copy, PartialEq, Eq)]
 pub struct Addr(pub u16);
 
 // The number of a local variable, from 0.
@@ -37,7 +37,7 @@ pub enum Instruction {
     Return,
     Get(u8, u8, Addr),
     Put(u8, u8, Addr),
-    // Of an opcode that is not in the table.
+    // Of an opcode that is not in the table. The definition `decoded` has it, and the theorems on machine and rules stand on that.
     Nothing,
 }
 

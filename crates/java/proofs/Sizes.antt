@@ -77,3 +77,7 @@ module _ (code : List ℕ) (p : ℕ) where
   read_whole {j} {w} {l} e f g h k =
       let d = size_is e f g in
       rw (le-leb (p + raw_size code p) (length code) (omega arith)) (e, d)
+
+  -- the next instruction begins further on, and within the code or where it ends
+  pub size-within : {size : ℕ} → size ≡ size_at code p → p < length code → (p + size ≤ length code) × (1 ≤ size)
+  size-within s l = rw s (size_fits l, size-pos)

@@ -1,3 +1,4 @@
 pub mod Opcodes
 pub mod Instructions
 pub mod Classes
+pub mod Walks

@@ -1,10 +1,15 @@
 // Document 02, Q-9: one instruction of Java's, as it stands in a method's code.
 #![tactic(auto)]
 
+mod steps;
+
 ghost use Rattle.std.specs.Prelude.{◌≡◌, ◌<◌};
+ghost use Rattle.ground.specs.Bounded.{Told};
 ghost use Rattle.java.specs.Opcodes.{aload_of, iinc_of, java_of, width_of, lock_bytes};
 ghost use Rattle.java.specs.Instructions.{java_at, size_at, gives_of};
 ghost use Rattle.java.specs.Classes.{is_index, class_number, known};
+
+pub use steps::{Placed, Steps, walk};
 
 // An instruction that is taken; Enter and Exit are an aload with its lock instruction.
 #[derive(Clone, Copy)]
@@ -110,19 +115,8 @@ fn lock_bytes(j: Java) -> usize
     ensures { result ≡ lock_bytes j }
 {
     match j {
-        Java::Nop => 0,
-        Java::Pop => 0,
-        Java::Iconst0 => 0,
-        Java::Load(_) => 0,
-        Java::Store(_) => 0,
-        Java::Ifne(_) => 0,
-        Java::Enter(_) => 1,
-        Java::Exit(_) => 1,
-        Java::New(_) => 0,
-        Java::Athrow => 0,
-        Java::Return => 0,
-        Java::Iinc(_) => 0,
-        Java::Other => 0,
+        Java::Enter(_) | Java::Exit(_) => 1,
+        _ => 0,
     }
 }
 
@@ -156,19 +150,9 @@ pub fn gives(j: Java) -> usize
     ensures { result ≡ gives_of j }
 {
     match j {
-        Java::Nop => 0,
-        Java::Pop => 1,
-        Java::Iconst0 => 1,
-        Java::Load(_) => 1,
-        Java::Store(_) => 1,
-        Java::Ifne(_) => 1,
-        Java::Enter(_) => 1,
-        Java::Exit(_) => 1,
-        Java::New(_) => 1,
-        Java::Athrow => 1,
-        Java::Return => 1,
+        Java::Nop | Java::Other => 0,
         Java::Iinc(_) => 3,
-        Java::Other => 0,
+        _ => 1,
     }
 }
 
@@ -179,37 +163,24 @@ fn is_index(classes: &[u8], index: u16, i: usize) -> bool
     (2 * i + 1 < classes.len()) & (ground::word(classes, 2 * i) == index)
 }
 
-// The number of the class with this index, 8 where there is none.
-pub fn class_number(classes: &[u8], index: u16) -> u8
-    ensures { result ≡ class_number classes.now index }
+// The number of the class with this index.
+pub fn class_number(classes: &[u8], index: u16) -> Option<u8>
+    ensures { Told 8 (class_number classes.now index) result }
 {
-    let mut c: u8 = 0;
-    while c < 8 {
-        let i = c as usize;
-        if is_index(classes, index, i) {
-            return c;
+    for c in 0..8u8 {
+        if is_index(classes, index, c as usize) {
+            return Some(c);
         }
-        c += 1;
     }
-    c
+    None
 }
 
 pub fn known(classes: &[u8], j: Java) -> bool
     ensures { result ≡ known classes.now j }
 {
     match j {
-        Java::Nop => true,
-        Java::Pop => true,
-        Java::Iconst0 => true,
-        Java::Load(_) => true,
-        Java::Store(_) => true,
-        Java::Ifne(_) => true,
-        Java::Enter(_) => true,
-        Java::Exit(_) => true,
-        Java::New(i) => class_number(classes, i) < 8,
-        Java::Athrow => true,
-        Java::Return => true,
-        Java::Iinc(_) => true,
+        Java::New(i) => class_number(classes, i).is_some(),
         Java::Other => false,
+        _ => true,
     }
 }

@@ -16,9 +16,10 @@ use Rattle.ground.proofs.Bytes.{part_length}
 use Rattle.bundle.specs.declared.Class.{Class}
 use Rattle.bundle.specs.Container.{width, descriptor_count, size}
 use Rattle.laying.specs.declared.Sizes.{Sizes}
-use Rattle.laying.specs.Given.{given, numbers_at}
+use Rattle.laying.specs.Given.{Given, numbers_at}
 use Rattle.laying.specs.Lengths.{code_bytes, entries, kind_bytes, descriptors_before, instructions_before, kinds_before, depths_before, records_before, lengths_ok, whole}
 use Rattle.laying.specs.Laid.{word, entry_laid, entries_laid, row_laid, record_laid, cut, record_of, head_laid, trailer_laid, laid}
+use Rattle.laying.specs.Laying as spec
 use Rattle.laying.specs.Loops.{Lays, Room, sizes_of, more, Measured, Within}
 use Rattle.laying.proofs.Over.{lays-then}
 
@@ -79,21 +80,27 @@ unfolding trailer_laid word
 trailer-long r n x w = refl
 
 -- ---- what 27 leaves
-pub measured : (n : ℕ) (d ds is ts ps : List ℕ) → lengths_ok n d ds is ts ps ≡ true → Measured n d ds is ts ps
+pub measured : (g : Given) → spec.measured g ≡ true → Measured g
 unfolding lengths_ok
-measured n d ds is ts ps m =
+measured g m =
     record {
-      least = leb-true 1 n (search (and-fst, and-snd));
-      most = leb-true n 8 (search (and-fst, and-snd));
-      directory = eqb-true (length d) (6 * n) (search (and-fst, and-snd));
-      descriptors = eqb-true (length ds) (descriptors_before d n) (search (and-fst, and-snd));
-      instructions = eqb-true (length is) (instructions_before d n) (search (and-fst, and-snd));
-      kinds = eqb-true (length ts) (kinds_before d n) (search (and-fst, and-snd));
-      depths = eqb-true (length ps) (depths_before d n) (search (and-fst, and-snd));
+      least = leb-true 1 g.classes (search (and-fst, and-snd));
+      most = leb-true g.classes 8 (search (and-fst, and-snd));
+      directory = eqb-true (length g.directory) (6 * g.classes) (search (and-fst, and-snd));
+      descriptors = eqb-true (length g.descriptors) (descriptors_before g.directory g.classes) (search (and-fst, and-snd));
+      instructions = eqb-true (length g.instructions) (instructions_before g.directory g.classes) (search (and-fst, and-snd));
+      kinds = eqb-true (length g.kinds) (kinds_before g.directory g.classes) (search (and-fst, and-snd));
+      depths = eqb-true (length g.depths) (depths_before g.directory g.classes) (search (and-fst, and-snd));
     }
 
-module _ {n : ℕ} {d ds is ts ps : List ℕ} (m : Measured n d ds is ts ps) where
-  pub within : (c : ℕ) → c < n → Within d ds is ts ps c
+module _ {g : Given} (m : Measured g) where
+  abbrev n : ℕ
+  n = g.classes
+
+  abbrev d : List ℕ
+  d = g.directory
+
+  pub within : (c : ℕ) → c < n → Within g c
   unfolding descriptors_before instructions_before kinds_before depths_before
   within c l =
       record {
@@ -109,16 +116,16 @@ module _ {n : ℕ} {d ds is ts ps : List ℕ} (m : Measured n d ds is ts ps) whe
   unfolding records_before
   records-part c l = sum-part (λ i. size (numbers_at d i)) n c l
 
-  pub class-long : (c : ℕ) → c < n → length (record_of d ds is ts ps c) ≡ size (numbers_at d c)
+  pub class-long : (c : ℕ) → c < n → length (record_of g c) ≡ size (numbers_at d c)
   unfolding record_of
   class-long c l =
       let w = within c l in
-      record-long (numbers_at d c) _ _ _ _ (cut-long ds (descriptors_before d c) (descriptor_count (numbers_at d c)) w.descriptors)
-      (cut-long is (instructions_before d c) (code_bytes (numbers_at d c)) w.instructions)
+      record-long (numbers_at d c) _ _ _ _ (cut-long g.descriptors (descriptors_before d c) (descriptor_count (numbers_at d c)) w.descriptors)
+      (cut-long g.instructions (instructions_before d c) (code_bytes (numbers_at d c)) w.instructions)
 
-  pub records-long : (c : ℕ) → c ≤ n → length (each c (record_of d ds is ts ps)) ≡ records_before d c
+  pub records-long : (c : ℕ) → c ≤ n → length (each c (record_of g)) ≡ records_before d c
   unfolding records_before
-  records-long c h = each-sum (record_of d ds is ts ps) (λ i. size (numbers_at d i)) c (λ i l. class-long i (omega arith))
+  records-long c h = each-sum (record_of g) (λ i. size (numbers_at d i)) c (λ i l. class-long i (omega arith))
 
   pub head-long : (c : ℕ) → c < n → length (head_laid d c) ≡ 8
   unfolding head_laid word
@@ -128,57 +135,50 @@ module _ {n : ℕ} {d ds is ts ps : List ℕ} (m : Measured n d ds is ts ps) whe
   heads-long c h = each-wide (head_laid d) 8 c (λ i l. head-long i (omega arith)) ∙ omega arith
 
   -- THEOREM: the bundle is as long as is said
-  pub laid-long : (x : ℕ) → length (laid (given n x d ds is ts ps)) ≡ whole d n
+  pub laid-long : length (laid g) ≡ whole d n
   unfolding laid whole
-  laid-long x =
-      let t : List ℕ = trailer_laid (records_before d n) n x (records_before d n + 8 * n + 8) in
+  laid-long =
+      let t : List ℕ = trailer_laid (records_before d n) n g.exception (records_before d n + 8 * n + 8) in
       omega (
         arith,
-        length-append (each n (record_of d ds is ts ps) ++ each n (head_laid d)) t,
-        length-append (each n (record_of d ds is ts ps)) (each n (head_laid d)),
+        length-append (each n (record_of g) ++ each n (head_laid d)) t,
+        length-append (each n (record_of g)) (each n (head_laid d)),
         records-long n (omega arith),
         heads-long n (omega arith),
-        trailer-long (records_before d n) n x (records_before d n + 8 * n + 8),
+        trailer-long (records_before d n) n g.exception (records_before d n + 8 * n + 8),
       )
 
 -- ---- a class's parts, as the code cuts them
-module _ (d ds is ts ps : List ℕ) (c : ℕ) (s r : Sizes) (k : Class) (e : s ≡ sizes_of d c) (f : k ≡ numbers_at d c) (g : r ≡ more s k) where
-  pub ends : Within d ds is ts ps c
-      → (s.descriptors ≤ r.descriptors) × (r.descriptors ≤ length ds) × (s.instructions ≤ r.instructions) × (r.instructions ≤ length is)
-      × (s.kinds ≤ r.kinds) × (r.kinds ≤ length ts) × (s.depths ≤ r.depths) × (r.depths ≤ length ps)
-  ends w =
-      rw (g, e, f)
-      (omega arith, w.descriptors, omega arith, w.instructions, omega arith, w.kinds, omega arith, w.depths)
-
-  pub record_is : record_laid k (part ds s.descriptors r.descriptors) (part is s.instructions r.instructions) (part ts s.kinds r.kinds) (part ps s.depths r.depths)
-      ≡ record_of d ds is ts ps c
+module _ (g : Given) (c : ℕ) (s r : Sizes) (k : Class) (e : s ≡ sizes_of g.directory c) (f : k ≡ numbers_at g.directory c) (h : r ≡ more s k) where
+  pub record_is : record_laid k (part g.descriptors s.descriptors r.descriptors) (part g.instructions s.instructions r.instructions) (part g.kinds s.kinds r.kinds) (part g.depths s.depths r.depths)
+      ≡ record_of g c
   unfolding record_of
-  record_is = rw (g, e, f)
+  record_is = rw (h, e, f)
 
 -- ---- the bundle
-module _ {n : ℕ} {d ds is ts ps : List ℕ} (m : Measured n d ds is ts ps) (x : ℕ) (out : List ℕ) (h : whole d n ≤ length out) where
-  pub records-room : Room out 0 (each n (record_of d ds is ts ps))
+module _ {g : Given} (m : Measured g) (out : List ℕ) (h : whole g.directory g.classes ≤ length out) where
+  pub records-room : Room out 0 (each g.classes (record_of g))
   unfolding whole
-  records-room = omega (arith, records-long m n (omega arith))
+  records-room = omega (arith, records-long m g.classes (omega arith))
 
-  module _ {p : ℕ} {o₁ : List ℕ} (a : Lays out 0 (each n (record_of d ds is ts ps)) p o₁) where
-    pub records-end : p ≡ records_before d n
-    records-end = omega (arith, a.next, records-long m n (omega arith))
+  module _ {p : ℕ} {o₁ : List ℕ} (a : Lays out 0 (each g.classes (record_of g)) p o₁) where
+    pub records-end : p ≡ records_before g.directory g.classes
+    records-end = omega (arith, a.next, records-long m g.classes (omega arith))
 
-    heads-room : Room out 0 (each n (record_of d ds is ts ps) ++ each n (head_laid d))
+    heads-room : Room out 0 (each g.classes (record_of g) ++ each g.classes (head_laid g.directory))
     unfolding whole
-    heads-room = omega (arith, length-append (each n (record_of d ds is ts ps)) (each n (head_laid d)), records-long m n (omega arith), heads-long m n (omega arith))
+    heads-room = omega (arith, length-append (each g.classes (record_of g)) (each g.classes (head_laid g.directory)), records-long m g.classes (omega arith), heads-long m g.classes (omega arith))
 
-    module _ {q : ℕ} {o₂ : List ℕ} (b : Lays o₁ p (each n (head_laid d)) q o₂) where
-      both : Lays out 0 (each n (record_of d ds is ts ps) ++ each n (head_laid d)) q o₂
+    module _ {q : ℕ} {o₂ : List ℕ} (b : Lays o₁ p (each g.classes (head_laid g.directory)) q o₂) where
+      both : Lays out 0 (each g.classes (record_of g) ++ each g.classes (head_laid g.directory)) q o₂
       both = lays-then out 0 a heads-room b
 
-      all_room : Room out 0 (each n (record_of d ds is ts ps) ++ each n (head_laid d) ++ trailer_laid (records_before d n) n x (whole d n))
+      all_room : Room out 0 (each g.classes (record_of g) ++ each g.classes (head_laid g.directory) ++ trailer_laid (records_before g.directory g.classes) g.classes g.exception (whole g.directory g.classes))
       unfolding laid
-      all_room = omega (arith, laid-long m x)
+      all_room = omega (arith, laid-long m)
 
-      pub bundle-laid : {r : ℕ} {o₃ : List ℕ} (w : ℕ) → w ≡ whole d n → Lays o₂ q (trailer_laid p n x w) r o₃ → Lays out 0 (laid (given n x d ds is ts ps)) r o₃
+      pub bundle-laid : {r : ℕ} {o₃ : List ℕ} (w : ℕ) → w ≡ whole g.directory g.classes → Lays o₂ q (trailer_laid p g.classes g.exception w) r o₃ → Lays out 0 (laid g) r o₃
       unfolding laid
       bundle-laid {r} {o₃} w e t =
-          let t' : Lays o₂ q (trailer_laid (records_before d n) n x (whole d n)) r o₃ = rw (e, records-end) at t in
+          let t' : Lays o₂ q (trailer_laid (records_before g.directory g.classes) g.classes g.exception (whole g.directory g.classes)) r o₃ = rw (e, records-end) at t in
           lays-then out 0 both all_room t'

@@ -1,4 +1,3 @@
 pub mod Over
 pub mod Sums
 pub mod Lengths
-pub mod Refusals

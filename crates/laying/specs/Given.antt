@@ -2,6 +2,7 @@
 use Rattle.std.specs.Prelude.{List, ℕ, ◌+◌, ◌*◌}
 use Rattle.ground.specs.Bytes.{at, be16}
 use Rattle.bundle.specs.declared.Class.{Class}
+use Rattle.laying.specs.declared.Parts.{Parts}
 
 -- two numbers and five strings of bytes, each with all classes one after the other
 pub record Given : Type 0 where
@@ -16,6 +17,10 @@ pub record Given : Type 0 where
 abbrev pub given : ℕ → ℕ → List ℕ → List ℕ → List ℕ → List ℕ → List ℕ → Given
 given n x d ds is ts ps =
     record { classes = n; exception = x; directory = d; descriptors = ds; instructions = is; kinds = ts; depths = ps }
+
+-- .. as the code is lent it
+abbrev pub given_of : Parts → Given
+given_of p = given p.classes p.exception p.directory.now p.descriptors.now p.instructions.now p.kinds.now p.depths.now
 
 -- a class's directory numbers, six bytes: arguments n, variables V, stack limit K, fields f, code length k (2). Where its record begins is not said by them
 unfoldable pub numbers_at : List ℕ → ℕ → Class

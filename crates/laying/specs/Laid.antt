@@ -47,8 +47,10 @@ abbrev pub depths_of : List ℕ → List ℕ → ℕ → List ℕ
 depths_of d ps c = cut ps (depths_before d c) (numbers_at d c).code
 
 -- ---- the bundle
-unfoldable pub record_of : List ℕ → List ℕ → List ℕ → List ℕ → List ℕ → ℕ → List ℕ
-record_of d ds is ts ps c = record_laid (numbers_at d c) (descriptors_of d ds c) (instructions_of d is c) (kinds_of d ts c) (depths_of d ps c)
+unfoldable pub record_of : Given → ℕ → List ℕ
+record_of g c =
+    record_laid (numbers_at g.directory c) (descriptors_of g.directory g.descriptors c) (instructions_of g.directory g.instructions c)
+    (kinds_of g.directory g.kinds c) (depths_of g.directory g.depths c)
 
 -- the directory holds eight bytes a class: record offset (2), then n, V, K, f and k (2) as they are given
 unfoldable pub head_laid : List ℕ → ℕ → List ℕ
@@ -61,6 +63,6 @@ trailer_laid r n x w = word r ++ (n ∷ x ∷ []) ++ word w ++ (76 ∷ 75 ∷ []
 -- records in class order, directory, trailer
 unfoldable pub laid : Given → List ℕ
 laid g =
-    each g.classes (record_of g.directory g.descriptors g.instructions g.kinds g.depths)
+    each g.classes (record_of g)
     ++ each g.classes (head_laid g.directory)
     ++ trailer_laid (records_before g.directory g.classes) g.classes g.exception (whole g.directory g.classes)

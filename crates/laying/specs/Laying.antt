@@ -1,10 +1,12 @@
 -- What is refused before a bundle is laid, and what the bytes lent for it hold then.
-use Rattle.std.specs.Prelude.{List, ◌++◌, Bool, ℕ, ◌+◌, leb, ltb, eqb, length, take, drop}
+use Rattle.std.specs.Prelude.{List, ◌++◌, ◌≡◌, Bool, ℕ, ◌+◌, leb, ltb, eqb, length, take, drop, Result, Ok, Err}
 use Rattle.ground.specs.Chain.{refuse}
+use Rattle.verdicts.specs.declared.Refusal.{Refusal}
+use Rattle.verdicts.specs.Verdicts.{verdict}
+use Rattle.verdicts.specs.Numbers.{numbers}
 use Rattle.laying.specs.Given.{Given}
 use Rattle.laying.specs.Lengths.{lengths_ok, whole}
 use Rattle.laying.specs.Laid.{laid}
-use Rattle.laying.specs.declared.Layout.{Layout}
 
 -- out with the bytes xs from place p on
 unfoldable pub over : List ℕ → ℕ → List ℕ → List ℕ
@@ -18,6 +20,11 @@ put_in xs out = refuse (leb (length xs) (length out)) out (over out 0 xs)
 abbrev pub measured : Given → Bool
 measured g = lengths_ok g.classes g.directory g.descriptors g.instructions g.kinds g.depths
 
+-- 0 and how long the bundle is, or a refusal and no length
+pub record Layout : Type 0 where
+  pub number : ℕ
+  pub length : ℕ
+
 abbrev pub layout : ℕ → ℕ → Layout
 layout n l = record { number = n; length = l }
 
@@ -29,6 +36,16 @@ layout_of g m =
     (refuse (ltb g.exception g.classes) (layout 3 0)
     (refuse (leb (whole g.directory g.classes) m) (layout 24 0)
     (layout 0 (whole g.directory g.classes)))))
+
+-- .. in the code's terms
+abbrev pub layout_in : Result ℕ Refusal → Layout
+layout_in (Ok l) = layout 0 l
+layout_in (Err r) = layout (numbers r).number 0
+
+-- a refusal names no class and no address
+abbrev pub nameless : Result ℕ Refusal → Type 0
+nameless (Ok _) = Unit
+nameless (Err r) = numbers r ≡ verdict (numbers r).number 0 0
 
 -- the bundle from the first byte on, and behind it what was there; with a refusal all as it was
 unfoldable pub laid_in : Given → List ℕ → List ℕ

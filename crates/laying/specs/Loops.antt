@@ -3,7 +3,7 @@ use Rattle.std.specs.Prelude.{List, ◌≡◌, ℕ, ◌+◌, ◌*◌, ◌<◌, �
 use Rattle.bundle.specs.declared.Class.{Class}
 use Rattle.bundle.specs.Container.{descriptor_count, size}
 use Rattle.laying.specs.declared.Sizes.{Sizes}
-use Rattle.laying.specs.Given.{numbers_at}
+use Rattle.laying.specs.Given.{Given, numbers_at}
 use Rattle.laying.specs.Lengths.{code_bytes, kind_bytes, descriptors_before, instructions_before, kinds_before, depths_before, records_before}
 use Rattle.laying.specs.Laying.{over}
 
@@ -52,21 +52,21 @@ pub record Near (s r : Sizes) : Type 0 where
   pub depths : r.depths ≤ s.depths + 268435456
   pub records : r.records ≤ s.records + 268435456
 
--- each slice is as long as the class count and the directory numbers ask
-pub record Measured (n : ℕ) (d ds is ts ps : List ℕ) : Type 0 where
-  pub least : 1 ≤ n
-  pub most : n ≤ 8
-  pub directory : length d ≡ 6 * n
-  pub descriptors : length ds ≡ descriptors_before d n
-  pub instructions : length is ≡ instructions_before d n
-  pub kinds : length ts ≡ kinds_before d n
-  pub depths : length ps ≡ depths_before d n
+-- each string is as long as the class count and the directory numbers ask
+pub record Measured (g : Given) : Type 0 where
+  pub least : 1 ≤ g.classes
+  pub most : g.classes ≤ 8
+  pub directory : length g.directory ≡ 6 * g.classes
+  pub descriptors : length g.descriptors ≡ descriptors_before g.directory g.classes
+  pub instructions : length g.instructions ≡ instructions_before g.directory g.classes
+  pub kinds : length g.kinds ≡ kinds_before g.directory g.classes
+  pub depths : length g.depths ≡ depths_before g.directory g.classes
 
--- class c's parts are within the slices
-pub record Within (d ds is ts ps : List ℕ) (c : ℕ) : Type 0 where
+-- class c's parts are within the strings
+pub record Within (g : Given) (c : ℕ) : Type 0 where
   pub class : c < 8
-  pub directory : 6 * c + 6 ≤ length d
-  pub descriptors : descriptors_before d c + descriptor_count (numbers_at d c) ≤ length ds
-  pub instructions : instructions_before d c + code_bytes (numbers_at d c) ≤ length is
-  pub kinds : kinds_before d c + kind_bytes (numbers_at d c) ≤ length ts
-  pub depths : depths_before d c + (numbers_at d c).code ≤ length ps
+  pub directory : 6 * c + 6 ≤ length g.directory
+  pub descriptors : descriptors_before g.directory c + descriptor_count (numbers_at g.directory c) ≤ length g.descriptors
+  pub instructions : instructions_before g.directory c + code_bytes (numbers_at g.directory c) ≤ length g.instructions
+  pub kinds : kinds_before g.directory c + kind_bytes (numbers_at g.directory c) ≤ length g.kinds
+  pub depths : depths_before g.directory c + (numbers_at g.directory c).code ≤ length g.depths

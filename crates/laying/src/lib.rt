@@ -3,16 +3,29 @@
 
 ghost use Rattle.std.specs.Prelude.{[], ◌∷◌, ◌≡◌, ◌+◌, ◌*◌, ◌<◌, ◌≤◌, leb, length};
 ghost use Rattle.ground.specs.Lists.{each};
-ghost use Rattle.laying.specs.Given.{given, numbers_at};
-ghost use Rattle.laying.specs.Lengths.{kind_bytes, lengths_ok, records_before, whole};
+ghost use Rattle.laying.specs.Given.{given_of, numbers_at};
+ghost use Rattle.laying.specs.Lengths.{kind_bytes, records_before, whole};
 ghost use Rattle.laying.specs.Laid.{word, entry_laid, entries_laid, row_laid, record_laid, record_of, head_laid, trailer_laid, laid};
-ghost use Rattle.laying.specs.Laying.{put_in, layout_of, laid_in};
+ghost use Rattle.laying.specs.Laying.{measured, put_in, layout_in, layout_of, laid_in, nameless};
 ghost use Rattle.laying.specs.Loops.{Lays, Room, sizes_of, more, Under, Near, Measured, Within};
 
 use bundle::Class;
+use verdicts::Refusal;
 
-// How many bytes of each slice some classes take, and of records.
+// What a weaver gives: the class count, the exception class, and five strings of bytes, each with all classes one after the other.
 #[derive(Clone, Copy)]
+pub struct Parts<'a> {
+    pub classes: u32,
+    pub exception: u32,
+    pub directory: &'a [u8],
+    pub descriptors: &'a [u8],
+    pub instructions: &'a [u8],
+    pub kinds: &'a [u8],
+    pub depths: &'a [u8],
+}
+
+// How many bytes of each string some classes take, and of records.
+#[derive(Clone, Copy, Default)]
 struct Sizes {
     descriptors: usize,
     instructions: usize,
@@ -21,13 +34,7 @@ struct Sizes {
     records: usize,
 }
 
-// 0 and how long the bundle is, or a refusal.
-#[derive(Clone, Copy)]
-pub struct Layout {
-    pub number: u8,
-    pub length: usize,
-}
-
+#[tactic(auto, unfolding(crate::specs::Given::numbers_at))]
 fn numbers_at(directory: &[u8], c: u8) -> Class
     ensures { result ≡ numbers_at directory.now c }
 {
@@ -67,52 +74,31 @@ fn sizes_of(directory: &[u8], n: u8) -> Sizes
     requires { n ≤ 8 }
     ensures { (result ≡ sizes_of directory.now n) × Under 8589934592 result }
 {
-    let mut s = Sizes {
-        descriptors: 0,
-        instructions: 0,
-        kinds: 0,
-        depths: 0,
-        records: 0,
-    };
+    let mut s = Sizes::default();
     for c in 0..n {
         s = more(s, numbers_at(directory, c));
     }
     s
 }
 
-// Whether each slice is as long as the class count and the directory numbers ask.
-fn lengths_ok(
-    classes: u32,
-    directory: &[u8],
-    descriptors: &[u8],
-    instructions: &[u8],
-    kinds: &[u8],
-    depths: &[u8],
-) -> bool
-    ensures { result ≡ lengths_ok classes directory.now descriptors.now instructions.now kinds.now depths.now }
+// Whether each string is as long as the class count and the directory numbers ask.
+#[tactic(auto, unfolding(crate::specs::Lengths::lengths_ok))]
+fn lengths_ok(parts: &Parts) -> bool
+    ensures { result ≡ measured (given_of parts.now) }
 {
-    if classes < 1 {
+    let n = parts.classes;
+    if n < 1 || 8 < n {
         return false;
     }
-    if 8 < classes {
-        return false;
-    }
-    if directory.len() != 6 * (classes as usize) {
-        return false;
-    }
-    let s = sizes_of(directory, classes as u8);
-    if descriptors.len() != s.descriptors {
-        return false;
-    }
-    if instructions.len() != s.instructions {
-        return false;
-    }
-    if kinds.len() != s.kinds {
-        return false;
-    }
-    depths.len() == s.depths
+    let s = sizes_of(parts.directory, n as u8);
+    parts.directory.len() == 6 * (n as usize)
+        && parts.descriptors.len() == s.descriptors
+        && parts.instructions.len() == s.instructions
+        && parts.kinds.len() == s.kinds
+        && parts.depths.len() == s.depths
 }
 
+#[tactic(auto, unfolding(crate::specs::Lengths::whole))]
 fn whole(directory: &[u8], n: u8) -> usize
     requires { n ≤ 8 }
     ensures { result ≡ whole directory.now n }
@@ -121,53 +107,34 @@ fn whole(directory: &[u8], n: u8) -> usize
 }
 
 // Each of the following lays its bytes from place p on, and gives back the place behind them.
-fn lay_byte(x: u8, out: &mut [u8], p: usize) -> usize
-    requires { Room out.old p (x ∷ []) }
-    ensures { Lays out.old p (x ∷ []) result out.new }
-{
-    out[p] = x;
-    p + 1
-}
-
-fn lay_two(x: u8, y: u8, out: &mut [u8], p: usize) -> usize
-    requires { Room out.old p (x ∷ y ∷ []) }
-    ensures { Lays out.old p (x ∷ y ∷ []) result out.new }
-{
-    let q = lay_byte(x, out, p);
-    lay_byte(y, out, q)
-}
-
-fn lay_word(x: usize, out: &mut [u8], p: usize) -> usize
-    requires { (x ≤ 65535) × Room out.old p (word x) }
-    ensures { Lays out.old p (word x) result out.new }
-{
-    lay_two((x / 256) as u8, (x % 256) as u8, out, p)
-}
-
 fn lay_all(src: &[u8], out: &mut [u8], p: usize) -> usize
     requires { Room out.old p src.now }
     ensures { Lays out.old p src.now result out.new }
 {
-    let mut q = p;
-    for i in 0..src.len() {
-        q = lay_byte(src[i], out, q);
-    }
+    let q = p + src.len();
+    out[p..q].copy_from_slice(src);
     q
 }
 
+#[tactic(auto, unfolding(crate::specs::Laid::word))]
+fn lay_word(x: usize, out: &mut [u8], p: usize) -> usize
+    requires { (x ≤ 65535) × Room out.old p (word x) }
+    ensures { Lays out.old p (word x) result out.new }
+{
+    lay_all(&[(x / 256) as u8, (x % 256) as u8], out, p)
+}
+
+#[tactic(auto, unfolding(crate::specs::Laid::entry_laid))]
 fn lay_entry(kinds: &[u8], i: usize, out: &mut [u8], p: usize) -> usize
     requires { (i < 1099511627776) × Room out.old p (entry_laid kinds.now i) }
     ensures { Lays out.old p (entry_laid kinds.now i) result out.new }
 {
-    let q = lay_two(
-        ground::byte(kinds, 2 * i),
-        ground::byte(kinds, 2 * i + 1),
-        out,
-        p,
-    );
-    lay_two(0, 0, out, q)
+    let kind = ground::byte(kinds, 2 * i);
+    let class = ground::byte(kinds, 2 * i + 1);
+    lay_all(&[kind, class, 0, 0], out, p)
 }
 
+#[tactic(auto, unfolding(crate::specs::Laid::entries_laid))]
 fn lay_entries(kinds: &[u8], s: usize, n: u8, out: &mut [u8], p: usize) -> usize
     requires { (s < 1073741824) × Room out.old p (entries_laid kinds.now s n) }
     ensures { Lays out.old p (entries_laid kinds.now s n) result out.new }
@@ -179,13 +146,14 @@ fn lay_entries(kinds: &[u8], s: usize, n: u8, out: &mut [u8], p: usize) -> usize
     q
 }
 
+#[tactic(auto, unfolding(crate::specs::Laid::row_laid))]
 fn lay_row(k: Class, kinds: &[u8], depths: &[u8], i: u16, out: &mut [u8], p: usize) -> usize
     requires { Room out.old p (row_laid k kinds.now depths.now i) }
     ensures { Lays out.old p (row_laid k kinds.now depths.now i) result out.new }
 {
     let s = (i as usize) * (k.vars as usize + k.limit as usize);
     let v = lay_entries(kinds, s, k.vars, out, p);
-    let d = lay_byte(ground::byte(depths, i as usize), out, v);
+    let d = lay_all(&[ground::byte(depths, i as usize)], out, v);
     lay_entries(kinds, s + k.vars as usize, k.limit, out, d)
 }
 
@@ -201,7 +169,8 @@ fn lay_rows(k: Class, kinds: &[u8], depths: &[u8], out: &mut [u8], p: usize) -> 
     q
 }
 
-// A record, from the class's own parts of the slices.
+// A record, from the class's own parts of the strings.
+#[tactic(auto, unfolding(crate::specs::Laid::record_laid))]
 fn lay_record(
     k: Class,
     descriptors: &[u8],
@@ -219,79 +188,46 @@ fn lay_record(
     lay_rows(k, kinds, depths, out, q)
 }
 
-fn lay_class(
-    directory: &[u8],
-    descriptors: &[u8],
-    instructions: &[u8],
-    kinds: &[u8],
-    depths: &[u8],
-    c: u8,
-    out: &mut [u8],
-    p: usize,
-) -> usize
-    requires within { Within directory.now descriptors.now instructions.now kinds.now depths.now c }
-    requires room { Room out.old p (record_of directory.now descriptors.now instructions.now kinds.now depths.now c) }
-    ensures { Lays out.old p (record_of directory.now descriptors.now instructions.now kinds.now depths.now c) result out.new }
+fn lay_class(parts: &Parts, c: u8, out: &mut [u8], p: usize) -> usize
+    requires within { Within (given_of parts.now) c }
+    requires room { Room out.old p (record_of (given_of parts.now) c) }
+    ensures { Lays out.old p (record_of (given_of parts.now) c) result out.new }
 {
-    let k = numbers_at(directory, c);
-    let s = sizes_of(directory, c);
+    let k = numbers_at(parts.directory, c);
+    let s = sizes_of(parts.directory, c);
     let e = more(s, k);
-    let d = s.descriptors;
-    let de = e.descriptors;
-    let i = s.instructions;
-    let ie = e.instructions;
-    let t = s.kinds;
-    let te = e.kinds;
-    let q = s.depths;
-    let qe = e.depths;
     lay_record(
         k,
-        &descriptors[d..de],
-        &instructions[i..ie],
-        &kinds[t..te],
-        &depths[q..qe],
+        &parts.descriptors[s.descriptors..e.descriptors],
+        &parts.instructions[s.instructions..e.instructions],
+        &parts.kinds[s.kinds..e.kinds],
+        &parts.depths[s.depths..e.depths],
         out,
         p,
     )
 }
 
-fn lay_records(
-    n: u8,
-    directory: &[u8],
-    descriptors: &[u8],
-    instructions: &[u8],
-    kinds: &[u8],
-    depths: &[u8],
-    out: &mut [u8],
-) -> usize
-    requires measured { Measured n directory.now descriptors.now instructions.now kinds.now depths.now }
-    requires room { Room out.old 0 (each n (record_of directory.now descriptors.now instructions.now kinds.now depths.now)) }
-    ensures { Lays out.old 0 (each n (record_of directory.now descriptors.now instructions.now kinds.now depths.now)) result out.new }
+fn lay_records(parts: &Parts, out: &mut [u8]) -> usize
+    requires measured { Measured (given_of parts.now) }
+    requires room { Room out.old 0 (each parts.now.classes (record_of (given_of parts.now))) }
+    ensures { Lays out.old 0 (each parts.now.classes (record_of (given_of parts.now))) result out.new }
 {
+    let n = parts.classes as u8;
     let mut q = 0;
     for c in 0..n {
-        q = lay_class(
-            directory,
-            descriptors,
-            instructions,
-            kinds,
-            depths,
-            c,
-            out,
-            q,
-        );
+        q = lay_class(parts, c, out, q);
     }
     q
 }
 
+#[tactic(auto, unfolding(crate::specs::Laid::word, crate::specs::Laid::head_laid))]
 fn lay_head(directory: &[u8], c: u8, out: &mut [u8], p: usize) -> usize
     requires { (c < 8) × (6 * c + 6 ≤ length directory.now) × (records_before directory.now c ≤ 65535) × Room out.old p (head_laid directory.now c) }
     ensures { Lays out.old p (head_laid directory.now c) result out.new }
 {
     let q = lay_word(sizes_of(directory, c).records, out, p);
     let d = 6 * (c as usize);
-    let e = d + 6;
-    lay_all(&directory[d..e], out, q)
+    lay_all(&directory[d..d + 6], out, q)
 }
 
 fn lay_directory(n: u8, directory: &[u8], out: &mut [u8], p: usize) -> usize
@@ -306,6 +242,7 @@ fn lay_directory(n: u8, directory: &[u8], out: &mut [u8], p: usize) -> usize
 }
 
 // The directory's offset, the class count, the exception class, the whole length.
+#[tactic(auto, unfolding(crate::specs::Laid::word, crate::specs::Laid::trailer_laid))]
 fn lay_trailer(
     offset: usize,
     n: u8,
@@ -318,80 +255,56 @@ fn lay_trailer(
     ensures { Lays out.old p (trailer_laid offset n exception length) result out.new }
 {
     let q = lay_word(offset, out, p);
-    let r = lay_two(n, exception, out, q);
+    let r = lay_all(&[n, exception], out, q);
     let s = lay_word(length, out, r);
-    lay_two(76, 75, out, s)
+    lay_all(&[76, 75], out, s)
 }
 
-fn lay_bundle(
-    n: u8,
-    exception: u8,
-    directory: &[u8],
-    descriptors: &[u8],
-    instructions: &[u8],
-    kinds: &[u8],
-    depths: &[u8],
-    out: &mut [u8],
-) -> usize
-    requires measured { Measured n directory.now descriptors.now instructions.now kinds.now depths.now }
-    requires short { (whole directory.now n ≤ 65535) × (whole directory.now n ≤ length out.old) }
-    ensures { Lays out.old 0 (laid (given n exception directory.now descriptors.now instructions.now kinds.now depths.now)) result out.new }
+fn lay_bundle(parts: &Parts, out: &mut [u8]) -> usize
+    requires measured { Measured (given_of parts.now) }
+    requires exception { parts.now.exception < parts.now.classes }
+    requires short { (whole parts.now.directory.now parts.now.classes ≤ 65535) × (whole parts.now.directory.now parts.now.classes ≤ length out.old) }
+    ensures { Lays out.old 0 (laid (given_of parts.now)) result out.new }
 {
-    let p = lay_records(n, directory, descriptors, instructions, kinds, depths, out);
-    let q = lay_directory(n, directory, out, p);
-    lay_trailer(p, n, exception, whole(directory, n), out, q)
+    let n = parts.classes as u8;
+    let p = lay_records(parts, out);
+    let q = lay_directory(n, parts.directory, out, p);
+    lay_trailer(
+        p,
+        n,
+        parts.exception as u8,
+        whole(parts.directory, n),
+        out,
+        q,
+    )
 }
 
-fn refusal(number: u8) -> Layout
-    ensures { result ≡ record { number = number; length = 0 } }
+// The bundle that is given, laid out from the first byte of `out` on, and its length; a refusal writes nothing.
+#[tactic(auto, unfolding(crate::specs::Laying::layout_of, crate::specs::Laying::laid_in, ground::specs::Chain::refuse))]
+pub fn lay(parts: &Parts, out: &mut [u8]) -> Result<usize, Refusal>
+    ensures answer { layout_in result ≡ layout_of (given_of parts.now) (length out.old) }
+    ensures left { out.new ≡ laid_in (given_of parts.now) out.old }
+    ensures bare { nameless result }
 {
-    Layout { number, length: 0 }
-}
-
-// The bundle that is given, laid out from the first byte of `out` on; a refusal writes nothing.
-pub fn lay(
-    classes: u32,
-    exception: u32,
-    directory: &[u8],
-    descriptors: &[u8],
-    instructions: &[u8],
-    kinds: &[u8],
-    depths: &[u8],
-    out: &mut [u8],
-) -> Layout
-    ensures { (result ≡ layout_of (given classes exception directory.now descriptors.now instructions.now kinds.now depths.now) (length out.old)) × (out.new ≡ laid_in (given classes exception directory.now descriptors.now instructions.now kinds.now depths.now) out.old) }
-{
-    if !lengths_ok(classes, directory, descriptors, instructions, kinds, depths) {
-        return refusal(27);
+    if !lengths_ok(parts) {
+        return Err(Refusal::Given);
     }
-    let n = classes as u8;
-    let w = whole(directory, n);
+    let w = whole(parts.directory, parts.classes as u8);
     if 65535 < w {
-        return refusal(1);
+        return Err(Refusal::Length);
     }
-    if classes <= exception {
-        return refusal(3);
+    if parts.classes <= parts.exception {
+        return Err(Refusal::Directory);
     }
     if out.len() < w {
-        return refusal(24);
+        return Err(Refusal::Room);
     }
-    lay_bundle(
-        n,
-        exception as u8,
-        directory,
-        descriptors,
-        instructions,
-        kinds,
-        depths,
-        out,
-    );
-    Layout {
-        number: 0,
-        length: w,
-    }
+    lay_bundle(parts, out);
+    Ok(w)
 }
 
 // All of src, from the first byte of `out` on; nothing, and false, where `out` is shorter.
+#[tactic(auto, unfolding(crate::specs::Laying::put_in, ground::specs::Chain::refuse))]
 pub fn put(src: &[u8], out: &mut [u8]) -> bool
     ensures { (result ≡ leb (length src.now) (length out.old)) × (out.new ≡ put_in src.now out.old) }
 {

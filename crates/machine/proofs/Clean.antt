@@ -25,7 +25,7 @@ use Rattle.threads.specs.Threads.{idle, from_top, top_of, var_of, pushed, popped
 use Rattle.state.specs.declared.State.{State}
 use Rattle.state.specs.State.{thread_at, class_of, with_thread, with_count, field_of, with_field, with_object, empty_state, not_live, lowest_free}
 use Rattle.belongs.proofs.Belongs.{Placed, Belongs}
-use Rattle.turns.specs.declared.Stepped.{Stepped}
+use Rattle.turns.specs.Stepped.{Stepped}
 use Rattle.turns.specs.Faults.{lock_of, int_fault, new_fails, is_field_value, get_fault, put_fault, fault_of}
 use Rattle.turns.specs.Waits.{start_wait, wait_of}
 use Rattle.turns.specs.Moves.{went_to, went_on, inc_move, store_move, counted, end_move, throw_move, enter_move, first_fields, make_move, get_move, put_move, start_move, move_of}

@@ -15,7 +15,7 @@ use Rattle.threads.specs.declared.Thread.{Thread}
 use Rattle.threads.specs.Threads.{from_top, top_of, var_of}
 use Rattle.state.specs.declared.State.{State}
 use Rattle.state.specs.State.{thread_at}
-use Rattle.turns.specs.declared.Stepped.{Stepped}
+use Rattle.turns.specs.Stepped.{Stepped}
 use Rattle.turns.specs.Faults.{new_fails}
 use Rattle.turns.specs.Moves.{throw_move, move_of}
 use Rattle.machine.specs.Machine.{step_of}

@@ -1,16 +1,21 @@
 -- What `run` may assume, and what a step is, from the tests that `step` makes before it.
 use mathlib.Core.Path.{◌≡◌, refl, sym, ◌∙◌}
-use mathlib.Core.Bool.{Bool, true, false, ◌&&◌}
+use mathlib.Core.Bool.{Bool, true, false, not, ◌&&◌}
 use mathlib.Core.List.{List}
 use Prim.Native.Nat.{ℕ, ◌<◌}
 use lib.Dec.{ltb}
 use lib.ListN.{length, get_or}
 use native.Mathlib.Omega.{arith}
-use borrow.Author.Tests.{eqb-true, lt-ltb}
+use borrow.Author.Tests.{eqb-true, lt-ltb, not-true}
+use Rattle.std.specs.Prelude.{Result, Ok, Err}
+use Rattle.std.specs.Result.{is_err}
 use Rattle.ground.specs.Chain.{refuse}
 use Rattle.ground.proofs.Chain.{went_on_lem}
 use Rattle.ground.proofs.Writes.{read-any}
 use Rattle.bundle.specs.Program.{program_of}
+use Rattle.verdicts.specs.declared.Refusal.{Refusal}
+use Rattle.verdicts.specs.Numbers.{judgement}
+use Rattle.verdicts.proofs.Numbers as numbers
 use Rattle.structure.specs.Structure.{structure_of}
 use Rattle.structure.proofs.Structured.{WellFormed, well-formed}
 use Rattle.threads.specs.declared.Thread.{Thread}
@@ -19,10 +24,15 @@ use Rattle.state.specs.declared.State.{State}
 use Rattle.state.specs.State.{thread_at}
 use Rattle.belongs.specs.Belongs.{state_ok}
 use Rattle.belongs.proofs.Belongs.{Placed, belongs-elim}
-use Rattle.turns.specs.declared.Stepped.{Stepped}
+use Rattle.turns.specs.Stepped.{Stepped}
 use Rattle.turns.specs.Answers.{unless}
 use Rattle.turns.specs.Exec.{run_of, turn_of}
 use Rattle.machine.specs.Machine.{readable, step_of}
+
+-- a bundle can be read where its structure is no refusal
+pub read : (b : List ℕ) (r : Result ℕ Refusal) {w : Bool} → judgement r ≡ structure_of b → w ≡ is_err r → readable b ≡ not w
+read b (Ok n) e f = rw (f, ← e)
+read b (Err x) e f = rw (f, ← e) (not-true _ (numbers.refused x))
 
 pub formed : (b : List ℕ) → readable b ≡ true → WellFormed (program_of b)
 formed b e = well-formed b (eqb-true (structure_of b).number 0 e)

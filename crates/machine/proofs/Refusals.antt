@@ -16,7 +16,7 @@ use Rattle.state.specs.declared.State.{State}
 use Rattle.state.specs.State.{thread_at}
 use Rattle.belongs.specs.Belongs.{state_ok}
 use Rattle.belongs.proofs.Belongs.{Belongs, belongs-elim}
-use Rattle.turns.specs.declared.Stepped.{Stepped}
+use Rattle.turns.specs.Stepped.{Stepped}
 use Rattle.turns.specs.Answers.{refused, unless, unless_drawn}
 use Rattle.turns.specs.Faults.{fault_of}
 use Rattle.turns.specs.Waits.{wait_of}

@@ -6,7 +6,7 @@ use Prim.Native.Nat.{ℕ, ◌+◌, ◌≤◌, ◌<◌}
 use native.Mathlib.Omega.{arith}
 use native.Mathlib.Decide.{dec_lt}
 use lib.ListN.{get_or, replicate, length-replicate, get_or-replicate}
-use lib.Dec.{ltb, leb, eqb}
+use lib.Dec.{leb, eqb}
 use borrow.Author.Tests.{ltb-true, leb-true, leb-false, eqb-true, eqb-false, lt-ltb}
 use Rattle.ground.specs.Bounded.{set_below}
 use Rattle.ground.proofs.Bools.{or_right, or-false-snd, never}
@@ -28,7 +28,7 @@ use Rattle.state.specs.declared.State.{State}
 use Rattle.state.specs.State.{thread_at, count_of, with_thread, with_count, with_field, with_object, free_of, others_free, is_free, holds_nothing, lowest_free}
 use Rattle.belongs.specs.Belongs.{state_ok}
 use Rattle.belongs.proofs.Belongs.{Placed, Belongs, refers-object, belongs-elim, belongs-intro}
-use Rattle.turns.specs.declared.Stepped.{Stepped}
+use Rattle.turns.specs.Stepped.{Stepped}
 use Rattle.turns.specs.Faults.{lock_of, top_fault, int_fault, push_fault, enter_fault, exit_fault, end_fault, throw_fault, athrow_fault, new_fails, new_fault, start_fault, get_fault, put_fault, fault_of}
 use Rattle.turns.specs.Waits.{enter_wait, wait_of}
 use Rattle.turns.specs.Moves.{went_to, went_on, inc_move, store_move, if_move, counted, enter_move, exit_move, end_move, caught, throw_move, fail_move, first_fields, make_move, new_move, get_move, put_move, start_move, move_of}

@@ -8,7 +8,7 @@ use Rattle.threads.specs.declared.Thread.{Thread}
 use Rattle.state.specs.declared.State.{State}
 use Rattle.state.specs.State.{with_thread, with_count}
 use Rattle.state.proofs.Words.{no_word}
-use Rattle.turns.specs.declared.Stepped.{Stepped}
+use Rattle.turns.specs.Stepped.{Stepped}
 
 pub uncounted : (s : State) (i : ℕ) (u : Thread) (n o m : ℕ) {y : Stepped} → length s.counts ≡ 256 → length s.held ≡ 8
     → record { answer = n; state = with_thread (with_count s i o m) i u } ≡ y → 256 ≤ i * 32 + o → record { answer = n; state = with_thread s i u } ≡ y

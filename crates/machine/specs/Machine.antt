@@ -8,7 +8,7 @@ use Rattle.threads.specs.declared.Thread.{Thread}
 use Rattle.state.specs.declared.State.{State}
 use Rattle.state.specs.State.{thread_at, with_thread, with_object, empty_state}
 use Rattle.belongs.specs.Belongs.{state_ok}
-use Rattle.turns.specs.declared.Stepped.{Stepped}
+use Rattle.turns.specs.Stepped.{Stepped}
 use Rattle.turns.specs.Answers.{unless}
 use Rattle.turns.specs.Moves.{first_fields}
 use Rattle.turns.specs.Exec.{run_of}

@@ -3,15 +3,18 @@
 
 ghost use Rattle.std.specs.Prelude.{◌≡◌, ◌<◌, true};
 ghost use Rattle.bundle.specs.Program.{program_of};
+ghost use Rattle.ground.specs.Bounded.{Told};
 ghost use Rattle.state.specs.State.{lowest_free};
 ghost use Rattle.belongs.specs.Belongs.{state_ok};
+ghost use Rattle.turns.specs.Numbers.{answer_number};
+ghost use Rattle.turns.specs.Stepped.{stepped_in};
 ghost use Rattle.turns.specs.Turns.{begun};
 ghost use Rattle.machine.specs.Machine.{main_thread, readable, fresh_of, step_of};
 
 use instructions::Addr;
 use state::State;
 use threads::Thread;
-use turns::{Change, Stepped};
+use turns::{Answer, Change, Stepped, Turn, View};
 
 fn main_thread() -> Thread
     ensures { result ≡ main_thread }
@@ -28,64 +31,71 @@ fn main_thread() -> Thread
 }
 
 pub fn fresh(b: &[u8]) -> Stepped
-    ensures { result ≡ fresh_of b.now }
+    ensures { stepped_in result ≡ fresh_of b.now }
 {
     let s = state::empty_state();
-    if structure::structure(b).number != 0 {
+    if structure::structure(b).is_err() {
         return Stepped {
-            answer: 17,
+            answer: Answer::BadBundle,
             state: s,
         };
     }
     let c = bundle::exception(b);
     let first = turns::fields::first_fields(b, c);
     Stepped {
-        answer: 0,
+        answer: Answer::WentOn,
         state: state::put_thread(state::add_object(s, c, first), 0, main_thread()),
     }
 }
 
-// t goes on as u with the answer n, and the new thread has the number j.
-fn begun(s: State, i: u8, t: Thread, u: Thread, n: u8, c: u8, args: u8, j: u8) -> Stepped
-    ensures { j ≡ lowest_free s → result ≡ begun s i t u n c args }
+// Thread i, which was t, takes the turn w, and the thread that begins has the lowest number that is free.
+fn begun(s: State, i: u8, t: Thread, w: Turn, c: u8, args: u8, lowest: Option<u8>) -> Stepped
+    ensures { Told 8 (lowest_free s) lowest → stepped_in result ≡ begun s i t w.thread (answer_number w.answer) c args }
 {
-    if 8 <= j {
+    let Some(j) = lowest else {
         return Stepped {
-            answer: 4,
+            answer: Answer::Crowded,
             state: s,
         };
-    }
-    let w = threads::start(state::thread(s, j), t, c, args);
-    let next = state::put_thread(s, j, w);
+    };
+    let begins = threads::start(state::thread(s, j), t, c, args);
+    let next = state::put_thread(s, j, begins);
     Stepped {
-        answer: n,
-        state: state::put_thread(next, i, u),
+        answer: w.answer,
+        state: state::put_thread(next, i, w.thread),
     }
 }
 
 // An arm that writes in place and returns leaves the state copied once on its way in and once on its way out; new, putfield and start call what takes the state.
 fn run(b: &[u8], s: State, i: u8, fails: bool) -> Stepped
     requires { (i < 8) × (readable b.now ≡ true) × (state_ok (program_of b.now) s ≡ true) }
-    ensures { result ≡ step_of b.now s i fails }
+    ensures { stepped_in result ≡ step_of b.now s i fails }
 {
     let mut next = s;
     let p = i as usize;
     let t = next.threads[p];
-    let w = turns::turn_of(b, next.objects, &next.counts, &next.classes, i, t, fails);
-    let n = w.answer;
-    let u = w.thread;
-    let c = w.change;
-    match c {
-        Change::Refusal => {
+    let view = View {
+        objects: next.objects,
+        counts: &next.counts,
+        classes: &next.classes,
+        number: i,
+    };
+    let w = match turns::turn_of(b, &view, t, fails) {
+        Ok(w) => w,
+        Err(answer) => {
             return Stepped {
-                answer: n,
+                answer,
                 state: next,
             };
         }
+    };
+    let answer = w.answer;
+    let u = w.thread;
+    match w.change {
         Change::Alone => {
             next.threads[p] = u;
             return Stepped {
-                answer: n,
+                answer,
                 state: next,
             };
         }
@@ -97,62 +107,60 @@ fn run(b: &[u8], s: State, i: u8, fails: bool) -> Stepped
                 next.counts[k] = m;
                 next.held[p] = held::mark(next.held[p], o, m);
                 return Stepped {
-                    answer: n,
+                    answer,
                     state: next,
                 };
             }
             return Stepped {
-                answer: n,
+                answer,
                 state: next,
             };
         }
         Change::Object(c) => {
             let first = turns::fields::first_fields(b, c);
             return Stepped {
-                answer: n,
+                answer,
                 state: state::put_thread(state::add_object(next, c, first), i, u),
             };
         }
         Change::Field(o, f, x) => {
             return Stepped {
-                answer: n,
+                answer,
                 state: state::put_thread(state::put_field(next, o, f, x), i, u),
             };
         }
         Change::Top(o, f) => {
-            let all = next.fields;
-            let v = threads::set_top(u, state::field(all, o, f));
-            next.threads[p] = v;
+            next.threads[p] = threads::set_top(u, state::field(next.fields, o, f));
             return Stepped {
-                answer: n,
+                answer,
                 state: next,
             };
         }
         Change::Begin(c, args) => {
-            let all = next.threads;
-            return begun(next, i, t, u, n, c, args, state::lowest_free(all));
+            let lowest = state::lowest_free(next.threads);
+            return begun(next, i, t, w, c, args, lowest);
         }
     }
 }
 
 pub fn step(b: &[u8], s: State, thread: u8, fails: bool) -> Stepped
-    ensures { result ≡ step_of b.now s thread fails }
+    ensures { stepped_in result ≡ step_of b.now s thread fails }
 {
-    if structure::structure(b).number != 0 {
+    if structure::structure(b).is_err() {
         return Stepped {
-            answer: 17,
+            answer: Answer::BadBundle,
             state: s,
         };
     }
     if !belongs::state_ok(b, s) {
         return Stepped {
-            answer: 18,
+            answer: Answer::BadState,
             state: s,
         };
     }
     if 8 <= thread {
         return Stepped {
-            answer: 5,
+            answer: Answer::NotLive,
             state: s,
         };
     }

@@ -1,7 +1,12 @@
 -- Laws of `then_short` and `first_short`: the first number that isn't 0.
+use Rattle.std.specs.Prelude.{Result, Ok, Err, IsErrAnd, is_ok}
+use Rattle.entries.specs.declared.Short.{Short}
+use Rattle.entries.specs.declared.Short.TheVariants.{Kind, Dip, End}
+use Rattle.entries.specs.Shorts.{short_number, short_in}
+use Rattle.ground.proofs.Chain.{then-stop, then-go, scan-zero, scan-next, scan-left, scan-done}
 use mathlib.Core.Path.{◌≡◌, refl, sym, ap, ◌∙◌}
-use mathlib.Core.Bool.{Bool, true, false, cond}
-use Prim.Native.Nat.{ℕ, zero, suc, ◌<◌, ◌≤◌}
+use mathlib.Core.Bool.{Bool, true, false, cond, false≢true}
+use Prim.Native.Nat.{ℕ, zero, suc, ◌+◌, ◌<◌, ◌≤◌}
 use native.Mathlib.Omega.{arith}
 use lib.Dec.{eqb}
 use borrow.Author.Tests.{eqb-true, not-false}
@@ -74,3 +79,39 @@ pub first-few : (n : ℕ) (f : ℕ → ℕ) → ((j : ℕ) → f j ≤ 3) → fi
 unfolding scan
 first-few zero f h = omega arith
 first-few (suc n) f h = then-few (first_short n f) (then_short (f n) 0) (first-few n f h) (then-few (f n) 0 (h n) (omega arith))
+
+-- ---- what `?` hands on is short, and what fits is 0
+pub ok_fits : (r : Result Unit Short) → is_ok r ≡ true → short_in r ≡ 0
+ok_fits (Ok _) h = refl
+ok_fits (Err s) h = absurd (false≢true h)
+
+shorted : (s : Short) → is_short (short_number s) ≡ true
+shorted Kind = refl
+shorted Dip = refl
+shorted End = refl
+
+module _ (r : Result Unit Short) (s : Short) (h : IsErrAnd r (λ x. x ≡ s)) where
+  handed : (r : Result Unit Short) → IsErrAnd r (λ x. x ≡ s) → short_in r ≡ short_number s
+  handed (Ok _) h = absurd h
+  handed (Err x) h = ap short_number h
+
+  -- .. of the first of two stages, and of a turn of a search
+  pub short-left : {u : ℕ} (w : ℕ) → short_number s ≡ u → short_in r ≡ then_short u w
+  short-left w e = then-stop is_short _ w (handed r h ∙ e) (rw (handed r h) (shorted s))
+
+  pub first-left : (f : ℕ → ℕ) (n i : ℕ) → i < n → first_short i f ≡ 0 → short_number s ≡ f i → short_in r ≡ first_short n f
+  first-left f n i l a e = scan-left is_short 0 refl f n i l a (handed r h ∙ e) (rw (handed r h) (shorted s))
+
+-- .. and what goes on is not
+pub short-go : {u v w : ℕ} → 0 ≡ u → v ≡ w → v ≡ then_short u w
+short-go e q = then-go is_short _ e refl q
+
+module _ (f : ℕ → ℕ) where
+  pub first-zero : first_short 0 f ≡ 0
+  first-zero = scan-zero is_short 0 refl f
+
+  pub first-next : (i : ℕ) → first_short i f ≡ 0 → 0 ≡ f i → first_short (i + 1) f ≡ 0
+  first-next i a e = scan-next is_short 0 refl f i a e refl
+
+  pub first-done : (n i : ℕ) → i ≤ n → n ≤ i → first_short i f ≡ 0 → 0 ≡ first_short n f
+  first-done n i l k a = scan-done is_short 0 refl f n i l k a

@@ -1,12 +1,12 @@
 -- The two loops over a frame, a turn at a time.
-use mathlib.Core.List.{List}
-use mathlib.Core.Path.{◌≡◌, refl, ◌∙◌}
-use Prim.Native.Nat.{ℕ, zero, suc, ◌+◌, ◌%◌}
-use lib.ListN.{length, set, length-set}
+use mathlib.Core.Path.{◌≡◌, refl}
+use Prim.Native.Nat.{ℕ, ◌+◌, ◌%◌}
+use lib.ListN.{set}
 use native.Mathlib.Numerals.{add-one}
-use Rattle.memory.specs.Frames.{top_place, top_of_stack, popped_in, dropped_in, cleared_in}
+use Rattle.memory.specs.declared.Frame.{Frame}
+use Rattle.memory.specs.Frames.{with_words, popped_in, dropped_in, cleared_in}
 
-module _ (p : List ℕ) where
+module _ (p : Frame) where
   pub dropped-zero : dropped_in 0 p ≡ p
   unfolding dropped_in
   dropped-zero = refl
@@ -19,17 +19,6 @@ module _ (p : List ℕ) where
   unfolding cleared_in
   cleared-zero = refl
 
-  pub cleared_more : (n : ℕ) → cleared_in (n + 1) p ≡ set (cleared_in n p) (n % 16) 0
+  pub cleared_more : (n : ℕ) → cleared_in (n + 1) p ≡ with_words (cleared_in n p) (set (cleared_in n p).vars (n % 16) 0)
   unfolding cleared_in
   cleared_more n = rw add-one
-
-  pub dropped-length : (n : ℕ) → length (dropped_in n p) ≡ length p
-  unfolding dropped_in
-  dropped-length zero = refl
-  dropped-length (suc n) =
-      length-set (set (dropped_in n p) (top_place (dropped_in n p)) 0) 34 (top_of_stack (dropped_in n p)) ∙ length-set (dropped_in n p) (top_place (dropped_in n p)) 0 ∙ dropped-length n
-
-  pub cleared-length : (n : ℕ) → length (cleared_in n p) ≡ length p
-  unfolding cleared_in
-  cleared-length zero = refl
-  cleared-length (suc n) = length-set (cleared_in n p) (n % 16) 0 ∙ cleared-length n

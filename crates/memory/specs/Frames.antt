@@ -1,110 +1,119 @@
--- One thread as a frame p of 36 words: its variables, from 16 on its stack from the bottom, and its class (32), address (33), depth (34) and whether it is live (35);
--- and each move of document 01 as what it writes. A frame has sixteen variables and sixteen stack places, and a move takes every place modulo 16.
+-- Each move of document 01 as what it writes into a frame. A frame has sixteen variables and sixteen stack places, and a move takes every place modulo 16.
 -- Nothing here has to be believed: the laws of proofs/Frames say of each move that it is the change of `threads`, where the thread has what the move takes.
-use Rattle.std.specs.Prelude.{List, Bool, cond, not, ℕ, zero, suc, ◌+◌, ◌-◌, ◌%◌, ltb, eqb, set}
+use Rattle.std.specs.Prelude.{◌≡◌, List, true, false, cond, ℕ, zero, suc, ◌+◌, ◌-◌, ◌%◌, ltb, eqb, length, set, replicate}
 use Rattle.ground.specs.Bytes.{at}
-use Rattle.ground.specs.Bounded.{set_below}
 use Rattle.instructions.specs.Table.{addr}
 use Rattle.values.specs.declared.Slot.{Slot}
 use Rattle.threads.specs.declared.Thread.{Thread}
 use Rattle.memory.specs.Tab.{tab}
 use Rattle.memory.specs.Words.{slot_of}
+use Rattle.memory.specs.declared.Frame.{Frame}
 
--- the value at place v of those that begin at `from`
-abbrev pub slot_in : List ℕ → ℕ → ℕ → Slot
-slot_in p from v = slot_of (at p (from + v))
+-- sixteen variables and sixteen stack places
+pub record Sixteen (p : Frame) : Type 0 where
+  pub vars_16 : length p.vars ≡ 16
+  pub stack_16 : length p.stack ≡ 16
 
-abbrev pub live_in : List ℕ → Bool
-live_in p = not (eqb (at p 35) 0)
+-- no thread's frame: not live, and all else 0
+abbrev pub empty_frame : Frame
+empty_frame = record { vars = replicate 16 0; stack = replicate 16 0; class = 0; at = 0; depth = 0; live = false }
 
-abbrev pub class_in : List ℕ → ℕ
-class_in p = at p 32 % 256
-
-abbrev pub address_in : List ℕ → ℕ
-address_in p = at p 33 % 65536
-
-abbrev pub depth_in : List ℕ → ℕ
-depth_in p = at p 34 % 256
+-- the value at place v of these words
+abbrev pub slot_in : List ℕ → ℕ → Slot
+slot_in words v = slot_of (at words v)
 
 -- the thread that the frame is
-abbrev pub thread_in : List ℕ → Thread
+abbrev pub thread_in : Frame → Thread
 thread_in p =
     record {
-      live = live_in p;
-      class = class_in p;
-      at = addr (address_in p);
-      depth = depth_in p;
-      vars = tab 16 (slot_in p 0);
-      stack = tab 16 (slot_in p 16);
+      live = p.live;
+      class = p.class;
+      at = addr p.at;
+      depth = p.depth;
+      vars = tab 16 (slot_in p.vars);
+      stack = tab 16 (slot_in p.stack);
     }
 
--- the stack place of the top, and its place in the frame
-abbrev pub top_of_stack : List ℕ → ℕ
-top_of_stack p = (at p 34 % 16 + 15) % 16
+-- the stack place of the top
+abbrev pub top_place : Frame → ℕ
+top_place p = (p.depth % 16 + 15) % 16
 
-abbrev pub top_place : List ℕ → ℕ
-top_place p = 16 + top_of_stack p
-
-abbrev pub top_in : List ℕ → ℕ
-top_in p = at p (top_place p)
+abbrev pub top_in : Frame → ℕ
+top_in p = at p.stack (top_place p)
 
 -- the entry under the top
-abbrev pub under_in : List ℕ → ℕ
-under_in p = at p (16 + (at p 34 % 16 + 14) % 16)
+abbrev pub under_in : Frame → ℕ
+under_in p = at p.stack ((p.depth % 16 + 14) % 16)
 
-abbrev pub var_in : List ℕ → ℕ → ℕ
-var_in p v = at p (v % 16)
+abbrev pub var_in : Frame → ℕ → ℕ
+var_in p v = at p.vars (v % 16)
+
+-- other variables
+abbrev pub with_words : Frame → List ℕ → Frame
+with_words p l = record { vars = l; stack = p.stack; class = p.class; at = p.at; depth = p.depth; live = p.live }
+
+-- another stack, of depth d
+abbrev pub with_places : Frame → List ℕ → ℕ → Frame
+with_places p l d = record { vars = p.vars; stack = l; class = p.class; at = p.at; depth = d; live = p.live }
 
 -- on to an address
-abbrev pub went_in : List ℕ → ℕ → List ℕ
-went_in p to = set p 33 to
+abbrev pub went_in : Frame → ℕ → Frame
+went_in p to = record { vars = p.vars; stack = p.stack; class = p.class; at = to; depth = p.depth; live = p.live }
 
 -- the top changed in place
-abbrev pub topped_in : List ℕ → ℕ → List ℕ
-topped_in p w = set p (top_place p) w
+abbrev pub topped_in : Frame → ℕ → Frame
+topped_in p w = with_places p (set p.stack (top_place p) w) p.depth
 
 -- w on the stack
-abbrev pub pushed_in : List ℕ → ℕ → List ℕ
-pushed_in p w = set (set p (16 + at p 34 % 16) w) 34 (at p 34 % 16 + 1)
+abbrev pub pushed_in : Frame → ℕ → Frame
+pushed_in p w = with_places p (set p.stack (p.depth % 16) w) (p.depth % 16 + 1)
 
 -- the top gone: its place becomes 0
-abbrev pub popped_in : List ℕ → List ℕ
-popped_in p = set (set p (top_place p) 0) 34 (top_of_stack p)
+abbrev pub popped_in : Frame → Frame
+popped_in p = with_places p (set p.stack (top_place p) 0) (top_place p)
 
 -- n entries gone from the top
-unfoldable pub dropped_in : ℕ → List ℕ → List ℕ
+unfoldable pub dropped_in : ℕ → Frame → Frame
 dropped_in zero p = p
 dropped_in (suc n) p = popped_in (dropped_in n p)
 
 -- w in the variable v
-abbrev pub stored_in : List ℕ → ℕ → ℕ → List ℕ
-stored_in p v w = set p (v % 16) w
+abbrev pub stored_in : Frame → ℕ → ℕ → Frame
+stored_in p v w = with_words p (set p.vars (v % 16) w)
 
 -- `if`: to the address a where the top isn't 0, and else on
-abbrev pub branched_in : List ℕ → ℕ → ℕ → List ℕ
+abbrev pub branched_in : Frame → ℕ → ℕ → Frame
 branched_in p a to = went_in (popped_in p) (cond (eqb (top_in p) 0) to a)
 
 -- n variables become 0
-unfoldable pub cleared_in : ℕ → List ℕ → List ℕ
+unfoldable pub cleared_in : ℕ → Frame → Frame
 cleared_in zero p = p
-cleared_in (suc n) p = set (cleared_in n p) (n % 16) 0
+cleared_in (suc n) p = with_words (cleared_in n p) (set (cleared_in n p).vars (n % 16) 0)
+
+-- the stack emptied
+abbrev pub emptied_in : Frame → Frame
+emptied_in p = dropped_in (p.depth % 32) p
+
+-- at rest, with the words it has
+abbrev pub rested_in : Frame → Frame
+rested_in p = record { vars = p.vars; stack = p.stack; class = 0; at = 0; depth = 0; live = false }
 
 -- an ended thread, of which so many variables were in use
-abbrev pub ended_in : List ℕ → ℕ → List ℕ
-ended_in p vars = set (set (set (set (dropped_in (at (cleared_in vars p) 34 % 32) (cleared_in vars p)) 32 0) 33 0) 34 0) 35 0
+abbrev pub ended_in : Frame → ℕ → Frame
+ended_in p vars = rested_in (emptied_in (cleared_in vars p))
 
 -- the stack emptied, and w alone on it
-abbrev pub caught_in : List ℕ → ℕ → List ℕ
-caught_in p w = pushed_in (dropped_in (at p 34 % 32) p) w
+abbrev pub caught_in : Frame → ℕ → Frame
+caught_in p w = pushed_in (emptied_in p) w
 
 -- w is thrown to the handler h; with none, the thread ends
-abbrev pub thrown_in : List ℕ → ℕ → ℕ → ℕ → List ℕ
+abbrev pub thrown_in : Frame → ℕ → ℕ → ℕ → Frame
 thrown_in p vars h w = cond (eqb h 0) (ended_in p vars) (went_in (caught_in p w) h)
 
 -- variable v of a thread that is started with the top n entries
-abbrev pub argument_in : List ℕ → ℕ → ℕ → ℕ
-argument_in p n v = cond (ltb v n) (at p (16 + (at p 34 % 16 + 31 - v) % 16)) 0
+abbrev pub argument_in : Frame → ℕ → ℕ → ℕ
+argument_in p n v = cond (ltb v n) (at p.stack ((p.depth % 16 + 31 - v) % 16)) 0
 
 -- a thread at address 1 of class c with these variables; its stack places are as they were
-abbrev pub begun_in : List ℕ → List ℕ → ℕ → List ℕ
-begun_in p vars c = set (set (set (set (set_below 16 (at vars) p) 32 c) 33 1) 34 0) 35 1
+abbrev pub begun_in : Frame → List ℕ → ℕ → Frame
+begun_in p vars c = record { vars = vars; stack = p.stack; class = c; at = 1; depth = 0; live = true }

@@ -1,9 +1,10 @@
 // What a word stands for, and what a whole thread does.
-ghost use Rattle.std.specs.Prelude.{◌≡◌, ◌≤◌};
+ghost use Rattle.std.specs.Prelude.{◌≡◌};
 ghost use Rattle.memory.specs.Tab.{tab};
 ghost use Rattle.memory.specs.Words.{slot_of, object_in};
 ghost use Rattle.memory.specs.Frames.{slot_in, thread_in};
 
+use crate::Frame;
 use instructions::Addr;
 use threads::Thread;
 use values::Slot;
@@ -31,33 +32,27 @@ pub fn slot_of(w: u64) -> Slot
     values::null_slot()
 }
 
-// Sixteen places.
-fn slots(p: &[u64; 36], from: usize) -> [Slot; 16]
-    requires { from ≤ 16 }
-    ensures { result ≡ tab 16 (slot_in p.now from) }
+fn slots(words: &[u64; 16]) -> [Slot; 16]
+    ensures { result ≡ tab 16 (slot_in words.now) }
 {
-    let z = values::zero_slot();
-    let mut next = [z; 16];
-    let mut v: usize = 0;
-    while v < 16 {
-        let x = slot_of(p[from + v]);
-        next[v] = x;
-        v += 1;
+    let mut next = [values::zero_slot(); 16];
+    for v in 0..16 {
+        next[v] = slot_of(words[v]);
     }
     next
 }
 
-pub fn thread_in(p: &[u64; 36]) -> Thread
-    ensures { result ≡ thread_in p.now }
-{
-    let vars = slots(p, 0);
-    let stack = slots(p, 16);
-    Thread {
-        live: p[35] != 0,
-        class: (p[32] % 256) as u8,
-        at: Addr((p[33] % 65536) as u16),
-        depth: (p[34] % 256) as u8,
-        vars: vars,
-        stack: stack,
+impl Frame {
+    pub fn thread(&self) -> Thread
+        ensures { result ≡ thread_in self.now }
+    {
+        Thread {
+            live: self.live,
+            class: self.class,
+            at: Addr(self.at),
+            depth: self.depth,
+            vars: slots(&self.vars),
+            stack: slots(&self.stack),
+        }
     }
 }

@@ -1,7 +1,7 @@
 -- Two entries that differ in their pairs only, the first below the second. Where the upper one meets what is wanted above, it has what is asked below (`-forced`); and where the lower one has it too, that one meets what is wanted below (`-holds`).
 use mathlib.Core.Path.{◌≡◌, refl}
 use mathlib.Core.Bool.{Bool, true, false, cond, false≢true}
-use Prim.Native.Nat.{ℕ, ◌-◌, ◌≤◌}
+use Prim.Native.Nat.{ℕ, ◌≤◌}
 use native.Mathlib.Nat.{le_refl}
 use native.Mathlib.Omega.{arith}
 use lib.Dec.{leb}
@@ -11,6 +11,8 @@ use Rattle.entries.specs.Entries.{Entry, Int, Top, Ref, Nullable, Blank, Malform
 use Rattle.entries.specs.Fits.{Want, may_go, takes, want, want_entered, want_exited, want_both}
 use Rattle.rules.proofs.Held.{Meets}
 use Rattle.needs.specs.declared.Pair.{Pair}
+use Rattle.std.specs.Prelude.{max}
+use Rattle.std.proofs.Math.Nat.{max-eq_left, max-eq_right}
 use Rattle.needs.specs.Needs.{asked, gone, greater, both, or_null}
 use Rattle.needs.specs.Exactly.{Under, same, less, Has}
 
@@ -80,29 +82,22 @@ plain-under same h = refl
 plain-under (less p q) h = never refl h
 
 -- ---- the greater of two
-greater-left : (a b n : ℕ) → greater a b ≤ n → a ≤ n
+pub max-greater : (a b : ℕ) → max a b ≡ greater a b
 unfolding greater
-greater-left a b n h = go (leb a b) refl h
+max-greater a b = go (leb a b) refl
   where
-    go : (t : Bool) → leb a b ≡ t → cond t b a ≤ n → a ≤ n
-    go true e k = omega (arith, leb-true a b e)
-    go false e k = k
+    go : (t : Bool) → leb a b ≡ t → max a b ≡ cond t b a
+    go true e = max-eq_right (leb-true a b e)
+    go false e = let l : b ≤ a = omega (arith, leb-false a b e) in max-eq_left l
+
+greater-left : (a b n : ℕ) → greater a b ≤ n → a ≤ n
+greater-left a b n h = omega (arith, max-greater a b)
 
 greater-right : (a b n : ℕ) → greater a b ≤ n → b ≤ n
-unfolding greater
-greater-right a b n h = go (leb a b) refl h
-  where
-    go : (t : Bool) → leb a b ≡ t → cond t b a ≤ n → b ≤ n
-    go true e k = k
-    go false e k = omega (arith, leb-false a b e)
+greater-right a b n h = omega (arith, max-greater a b)
 
 pub greater-least : (a b n : ℕ) → a ≤ n → b ≤ n → greater a b ≤ n
-unfolding greater
-greater-least a b n p q = go (leb a b)
-  where
-    go : (t : Bool) → cond t b a ≤ n
-    go true = q
-    go false = p
+greater-least a b n p q = omega (arith, max-greater a b)
 
 module _ (p q : Pair) (x : Entry) where
   pub both-has : Has p x → Has q x → Has (both p q) x

@@ -1,7 +1,7 @@
 -- Stack entries as the code numbers them.
 use mathlib.Core.List.{List}
 use mathlib.Core.Path.{◌≡◌, ap, ◌∙◌}
-use Prim.Native.Nat.{ℕ, suc, ◌+◌, ◌-◌, ◌<◌}
+use Prim.Native.Nat.{ℕ, suc, ◌+◌, ◌≤◌}
 use native.Mathlib.Omega.{arith}
 use borrow.Author.Tests.{lt-ltb, le-ltb}
 use Rattle.ground.specs.Chain.{refuse}
@@ -24,7 +24,7 @@ module _ (n : ℕ) (k : Class) (r : List ℕ) (s j : ℕ) {o : Pair} where
   pub pushed-below : o ≡ fitting ((row_from n k r s).stack (j + 1)) → o ≡ fitting (below (row_from n k r s) j)
   pushed-below q = q ∙ ap (λ (m : ℕ). fitting ((row_from n k r s).stack m)) (omega arith)
 
-  -- no stack has an entry 256
-  pub pushed-past : j ≡ 255 → k.limit < 256 → o ≡ gone → o ≡ fitting (below (row_from n k r s) j)
+  -- past the limit no entry stands
+  pub pushed-past : k.limit ≤ j → o ≡ gone → o ≡ fitting (below (row_from n k r s) j)
   unfolding stack_at refuse
-  pushed-past e l q = rw (le-ltb (suc j) k.limit (omega arith)) q
+  pushed-past l q = rw (le-ltb (suc j) k.limit (omega arith)) q

@@ -4,30 +4,20 @@
 mod places;
 mod strays;
 
-ghost use Rattle.std.specs.Prelude.{◌≡◌, ◌<◌};
+ghost use Rattle.std.specs.Prelude.{◌≡◌, ◌<◌, length};
+ghost use Rattle.ground.specs.Bounded.{Told};
 ghost use Rattle.offsets.specs.Offsets.{total};
 ghost use Rattle.offsets.specs.Handlers.{entries, handler_of, covers, covered_by};
 ghost use Rattle.offsets.specs.Targets.{target_of, first_stray, first_stray_entry};
 ghost use Rattle.offsets.specs.Offenders.{first_unknown, first_past};
 
-// An offset at which an instruction begins, and the number of instructions written before it.
-#[derive(Clone, Copy)]
-struct Place {
-    at: usize,
-    count: usize,
-}
-
 // How many instructions are written.
 pub fn total(code: &[u8]) -> usize
     ensures { result ≡ total code.now }
 {
-    let mut p = 0;
     let mut k = 0;
-    while p < code.len() {
-        let r = java::read_at(code, p);
-        let j = r.java;
-        k += java::gives(j);
-        p += r.size;
+    for x in java::walk(code) {
+        k += java::gives(x.java);
     }
     k
 }
@@ -67,71 +57,60 @@ fn covers(table: &[u8], offset: usize, i: usize) -> bool
         & (offset < ground::word(table, 8 * i + 2) as usize)
 }
 
-// The first entry that covers the offset, the number of entries where none does.
-pub fn covered_by(table: &[u8], offset: usize) -> usize
-    ensures { result ≡ covered_by table.now offset }
+// The first entry that covers the offset.
+pub fn covered_by(table: &[u8], offset: usize) -> Option<usize>
+    ensures { Told (entries table.now) (covered_by table.now offset) result }
 {
-    let n = table.len() / 8;
-    let mut i = 0;
-    while i < n {
+    for i in 0..table.len() / 8 {
         if covers(table, offset, i) {
-            return i;
+            return Some(i);
         }
-        i += 1;
     }
-    i
+    None
 }
 
-// 31: the first instruction that is not taken, the code's length where there is none.
-pub fn first_unknown(classes: &[u8], code: &[u8]) -> usize
-    ensures { result ≡ first_unknown classes.now code.now }
+// 31: the first instruction that is not taken.
+pub fn first_unknown(classes: &[u8], code: &[u8]) -> Option<usize>
+    ensures { Told (length code.now) (first_unknown classes.now code.now) result }
 {
-    let mut p = 0;
-    while p < code.len() {
-        let r = java::read_at(code, p);
-        let j = r.java;
-        if !java::known(classes, j) {
-            return p;
+    for x in java::walk(code) {
+        if !java::known(classes, x.java) {
+            return Some(x.at);
         }
-        p += r.size;
     }
-    p
+    None
 }
 
-// 32: the first ifne whose target may not be one, the code's length where there is none.
-pub fn first_stray(code: &[u8]) -> usize
-    ensures { result ≡ first_stray code.now }
+// 32: the first ifne whose target may not be one.
+pub fn first_stray(code: &[u8]) -> Option<usize>
+    ensures { Told (length code.now) (first_stray code.now) result }
 {
     let all = total(code);
-    let mut index = [0usize; 8192];
+    let mut index = [places::FIRST; places::PLACES];
     strays::stray_by(code, all, &mut index)
 }
 
-// 32: the first entry of the table whose handler may not be one, the number of entries where there is none.
-pub fn first_stray_entry(code: &[u8], table: &[u8]) -> usize
-    ensures { result ≡ first_stray_entry code.now table.now }
+// 32: the first entry of the table whose handler may not be one.
+pub fn first_stray_entry(code: &[u8], table: &[u8]) -> Option<usize>
+    ensures { Told (entries table.now) (first_stray_entry code.now table.now) result }
 {
     let all = total(code);
-    let mut index = [0usize; 8192];
+    let mut index = [places::FIRST; places::PLACES];
     let goal = places::window_end(code, 0);
-    places::reach(code, &mut index, Place { at: 0, count: 0 }, goal);
+    places::reach(code, &mut index, places::FIRST, goal);
     strays::stray_entry_by(code, all, &index, table)
 }
 
-// 33 and 34: the first instruction of which not all that is written stays within the limit, the code's length where there is none.
-pub fn first_past(code: &[u8], limit: usize) -> usize
-    ensures { result ≡ first_past code.now limit }
+// 33 and 34: the first instruction of which not all that is written stays within the limit.
+pub fn first_past(code: &[u8], limit: usize) -> Option<usize>
+    ensures { Told (length code.now) (first_past code.now limit) result }
 {
-    let mut p = 0;
     let mut k = 0;
-    while p < code.len() {
-        let r = java::read_at(code, p);
-        let j = r.java;
-        k += java::gives(j);
+    for x in java::walk(code) {
+        k += java::gives(x.java);
         if limit < k {
-            return p;
+            return Some(x.at);
         }
-        p += r.size;
     }
-    p
+    None
 }

@@ -11,8 +11,8 @@ use Rattle.ground.specs.Chain.{refuse}
 use Rattle.ground.specs.Lists.{All, first_broken}
 use Rattle.ground.proofs.Chain.{refused, went_on_lem}
 use Rattle.bundle.specs.Container.{classes}
-use Rattle.structure.specs.declared.Verdict.{Verdict}
-use Rattle.structure.specs.Verdicts.{verdict}
+use Rattle.verdicts.specs.declared.Verdict.{Verdict}
+use Rattle.verdicts.specs.Verdicts.{verdict}
 use Rattle.structure.specs.Places.{whole, trailer, directory, limits, extent, descriptors, instruction}
 use Rattle.rows.specs.Typed.{typed_of}
 use Rattle.verifier.specs.Places as verifier

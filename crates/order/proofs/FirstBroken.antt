@@ -9,8 +9,8 @@ use Rattle.ground.specs.Lists.{each, In, first_broken}
 use Rattle.ground.proofs.Lists.{in-append, in_left, in_right, in-each, in-numbered, in_map, first-append, first-map}
 use Rattle.bundle.specs.Container.{classes, class_at, part_of}
 use Rattle.bundle.specs.Program.{method_of, method_at, program_of}
-use Rattle.structure.specs.declared.Verdict.{Verdict}
-use Rattle.structure.specs.Verdicts.{verdict, is_bad}
+use Rattle.verdicts.specs.declared.Verdict.{Verdict}
+use Rattle.verdicts.specs.Verdicts.{verdict, is_bad}
 use Rattle.structure.specs.Loops.{and_then, ascending}
 use Rattle.structure.specs.Structure.{structure_of}
 use Rattle.structure.specs.Places.{structure_places}
@@ -155,11 +155,14 @@ module _ (b levels : List ℕ) where
         search-last (holds b levels) (drawn b) (bad b) accepted (Rules b),
       ))
 
-  pub by-class : (f : ℕ → List Place) → ascending (classes b) (λ c. searched b levels (f c)) ≡ searched b levels (each (classes b) f)
-  by-class f = sym (search-each (holds b levels) (drawn b) (bad b) (classes b) f)
+  pub by-class : (f : ℕ → List Place) → searched b levels (each (classes b) f) ≡ ascending (classes b) (λ c. searched b levels (f c))
+  by-class f = search-each (holds b levels) (drawn b) (bad b) (classes b) f
 
-  pub ordered-parts : (c : ℕ) → ordered_of (program_of b) levels (classes b) c (class_at b c) (part_of b (class_at b c)) ≡ searched b levels (ordered_places b c)
+  pub ordered-parts : (c : ℕ) → searched b levels (ordered_places b c) ≡ ordered_of (program_of b) levels (classes b) c (class_at b c) (part_of b (class_at b c))
   unfolding ordered_of ordered_at first_broken program_of method_at method_of
   ordered-parts c =
       ap (refuse (holds b levels (base (first c))) (verdict 10 c 0))
-      (sym (search-each (holds b levels) (drawn b) (bad b) (class_at b c).code (λ i. with_order (rule c (i + 1)))))
+      (search-each (holds b levels) (drawn b) (bad b) (class_at b c).code (λ i. with_order (rule c (i + 1))))
+
+-- what the code searches, as its parts
+pub ruleset searching = (verdict-parts, by-class, ordered-parts)

@@ -18,18 +18,18 @@ use Rattle.order.specs.Order.{level_of, owes, above, other_above, others_above, 
 
 -- ---- what the code looks at
 -- a reference that may not go has a negative end
-pub owes-goes : (x : Entry) → (is_reference x && not (may_go x)) ≡ owes x
+pub owes_goes : (x : Entry) → owes x ≡ (is_reference x && not (may_go x))
 unfolding owes
-owes-goes Int = refl
-owes-goes Top = refl
-owes-goes (Ref c d e) = go (dec_lt e no_end)
+owes_goes Int = refl
+owes_goes Top = refl
+owes_goes (Ref c d e) = go (dec_lt e no_end)
   where
-    go : Dec (e < no_end) → not (leb no_end e) ≡ ltb e no_end
+    go : Dec (e < no_end) → ltb e no_end ≡ not (leb no_end e)
     go (yes k) = rw (lt-leb no_end e k, lt-ltb e no_end k)
     go (no k) = rw (le-leb no_end e (omega arith), le-ltb e no_end (omega arith))
-owes-goes (Nullable c) = refl
-owes-goes Blank = refl
-owes-goes Malformed = refl
+owes_goes (Nullable c) = refl
+owes_goes Blank = refl
+owes_goes Malformed = refl
 
 -- an opcode other than 7 is no monitorenter
 module _ (levels : List ℕ) (vars : ℕ) (x : Row) (operand address : ℕ) where

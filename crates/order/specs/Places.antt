@@ -1,8 +1,8 @@
 -- The places at which a bundle and a list of levels can break a rule of the profile, in their order: the list itself, and those of `verify` with 25 after 9 at the same address; each with its verdict.
 use Rattle.std.specs.Prelude.{List, [], ◌∷◌, ◌++◌, Bool, ℕ}
 use Rattle.bundle.specs.Program.{Address, program_of}
-use Rattle.structure.specs.declared.Verdict.{Verdict}
-use Rattle.structure.specs.Verdicts.{verdict}
+use Rattle.verdicts.specs.declared.Verdict.{Verdict}
+use Rattle.verdicts.specs.Verdicts.{verdict}
 use Rattle.rows.specs.Typed.{typed_of}
 use Rattle.verifier.specs.Places as verifier
 use Rattle.verifier.specs.Places.{structural, form, first, rule}

@@ -3,8 +3,8 @@ use Rattle.std.specs.Prelude.{List, ◌∷◌, ◌++◌, ◌≡◌, ◌≢◌, t
 use Rattle.ground.specs.Lists.{All, first_broken}
 use Rattle.bundle.specs.Container.{classes}
 use Rattle.rows.specs.Typed.{typed_of}
-use Rattle.structure.specs.declared.Verdict.{Verdict}
-use Rattle.structure.specs.Verdicts.{verdict, Judges}
+use Rattle.verdicts.specs.declared.Verdict.{Verdict}
+use Rattle.verdicts.specs.Verdicts.{verdict, Judges}
 use Rattle.verifier.specs.Places as verifier
 use Rattle.verifier.specs.Places.{rule}
 use Rattle.verifier.specs.Verdict.{verdict_of}

@@ -7,14 +7,15 @@ ghost use Rattle.instructions.specs.Table.{decoded};
 ghost use Rattle.bundle.specs.Container.{classes};
 ghost use Rattle.bundle.specs.Program.{program_of};
 ghost use Rattle.entries.specs.Words.{entry_from};
-ghost use Rattle.rows.specs.Rows.{row_from, row_at};
+ghost use Rattle.rows.specs.Rows.{row_in, row_of};
+ghost use Rattle.verdicts.specs.Numbers.{found, judgement};
 ghost use Rattle.order.specs.Order.{level_of, owes, above, other_above, others_above, entry_above, stack_above, enter_order, order_of};
 ghost use Rattle.order.specs.Verdict.{ordered_verdict_of};
 ghost use Rattle.order.specs.Loops.{searched, ordered_places, ordered_at, ordered_of};
 
-use bundle::Class;
+use bundle::Record;
 use instructions::{Addr, Code};
-use structure::Verdict;
+use verdicts::Refusal;
 
 fn level_of(levels: &[u8], c: u8) -> u8
     ensures { result ≡ level_of levels.now c }
@@ -22,54 +23,57 @@ fn level_of(levels: &[u8], c: u8) -> u8
     ground::byte(levels, c as usize)
 }
 
+#[tactic(auto, using(crate::proofs::Order::owes_goes))]
 fn owes(n: u8, w: u32) -> bool
     ensures { result ≡ owes (entry_from n w) }
 {
     entries::is_reference(n, w) & !entries::may_go(n, w)
 }
 
-fn above(levels: &[u8], n: u8, m: u8, w: u32) -> bool
-    ensures { result ≡ above levels.now m (entry_from n w) }
+#[tactic(auto, using(ground::proofs::Tests::tests), unfolding(crate::specs::Order::above))]
+fn above(levels: &[u8], n: u8, level: u8, w: u32) -> bool
+    ensures { result ≡ above levels.now level (entry_from n w) }
 {
     if !owes(n, w) {
         return true;
     }
-    m < level_of(levels, entries::class_of(n, w))
+    level < level_of(levels, entries::class_of(n, w))
 }
 
-fn other_above(levels: &[u8], n: u8, k: Class, r: &[u8], m: u8, v: u8, p: u32, i: u8) -> bool
-    ensures { result ≡ other_above levels.now m v (row_from n k r.now p) i }
+#[tactic(auto, using(ground::proofs::Tests::tests))]
+fn other_above(levels: &[u8], m: &Record, level: u8, v: u8, p: u32, i: u8) -> bool
+    ensures { result ≡ other_above levels.now level v (row_in m.now p) i }
 {
     if i == v {
         return true;
     }
-    above(levels, n, m, rows::variable_word(n, k, r, p, i))
+    above(levels, m.classes, level, rows::variable_word(m, p, i))
 }
 
-fn others_above(levels: &[u8], n: u8, k: Class, r: &[u8], m: u8, v: u8, p: u32) -> bool
-    ensures { result ≡ others_above levels.now m k.vars v (row_from n k r.now p) }
+#[tactic(auto, using(ground::proofs::Bounded::every), unfolding(crate::specs::Order::others_above))]
+fn others_above(levels: &[u8], m: &Record, level: u8, v: u8, p: u32) -> bool
+    ensures { result ≡ others_above levels.now level m.now.class.vars v (row_in m.now p) }
 {
-    let vars = k.vars;
-    for i in 0..vars {
-        if !other_above(levels, n, k, r, m, v, p, i) {
+    for i in 0..m.class.vars {
+        if !other_above(levels, m, level, v, p, i) {
             return false;
         }
     }
     true
 }
 
-fn entry_above(levels: &[u8], n: u8, k: Class, r: &[u8], m: u8, p: u32, j: u8) -> bool
-    ensures { result ≡ entry_above levels.now m (row_from n k r.now p) j }
+fn entry_above(levels: &[u8], m: &Record, level: u8, p: u32, j: u8) -> bool
+    ensures { result ≡ entry_above levels.now level (row_in m.now p) j }
 {
-    above(levels, n, m, rows::stack_word(n, k, r, p, j))
+    above(levels, m.classes, level, rows::stack_word(m, p, j))
 }
 
-fn stack_above(levels: &[u8], n: u8, k: Class, r: &[u8], m: u8, p: u32) -> bool
-    ensures { result ≡ stack_above levels.now m (row_from n k r.now p) }
+#[tactic(auto, using(ground::proofs::Bounded::every), unfolding(crate::specs::Order::stack_above))]
+fn stack_above(levels: &[u8], m: &Record, level: u8, p: u32) -> bool
+    ensures { result ≡ stack_above levels.now level (row_in m.now p) }
 {
-    let d = rows::depth_at(k, r, p);
-    for j in 0..d {
-        if !entry_above(levels, n, k, r, m, p, j) {
+    for j in 0..rows::depth_at(m, p) {
+        if !entry_above(levels, m, level, p, j) {
             return false;
         }
     }
@@ -77,138 +81,84 @@ fn stack_above(levels: &[u8], n: u8, k: Class, r: &[u8], m: u8, p: u32) -> bool
 }
 
 // The row of the monitorenter begins at p.
-fn enter_order(levels: &[u8], n: u8, k: Class, r: &[u8], v: u8, p: u32) -> bool
-    ensures { result ≡ enter_order levels.now k.vars v (row_from n k r.now p) }
+#[tactic(auto, unfolding(crate::specs::Order::enter_order))]
+fn enter_order(levels: &[u8], m: &Record, v: u8, p: u32) -> bool
+    ensures { result ≡ enter_order levels.now m.now.class.vars v (row_in m.now p) }
 {
-    let m = level_of(
+    let level = level_of(
         levels,
-        entries::class_of(n, rows::variable_word(n, k, r, p, v)),
+        entries::class_of(m.classes, rows::variable_word(m, p, v)),
     );
-    if !others_above(levels, n, k, r, m, v, p) {
+    if !others_above(levels, m, level, v, p) {
         return false;
     }
-    stack_above(levels, n, k, r, m, p)
+    stack_above(levels, m, level, p)
 }
 
-fn order_of(levels: &[u8], n: u8, k: Class, r: &[u8], l: Addr, x: Code) -> bool
-    ensures { result ≡ order_of levels.now k.vars (row_at n k r.now l.0) (decoded x) }
+fn order_of(levels: &[u8], m: &Record, l: Addr, x: Code) -> bool
+    ensures { result ≡ order_of levels.now m.now.class.vars (row_of m.now l.0) (decoded x) }
 {
     if x.opcode != 7 {
         return true;
     }
-    enter_order(levels, n, k, r, x.operand, rows::row_start(k, l))
+    enter_order(levels, m, x.operand, rows::row_start(m.class, l))
 }
 
-fn ordered_at(b: &[u8], levels: &[u8], n: u8, c: u8, k: Class, r: &[u8], i: u16) -> Verdict
+fn ordered_at(b: &[u8], levels: &[u8], c: u8, m: &Record, i: u16) -> Result<(), Refusal>
     requires { i < 65535 }
-    ensures { result ≡ ordered_at (program_of b.now) levels.now n c k r.now i }
+    ensures { found result ≡ ordered_at (program_of b.now) levels.now m.now.classes c m.now.class m.now.bytes.now i }
 {
     let l = Addr(i + 1);
-    let x = bundle::code_at(k, r, l);
-    let o = rules::rule_of(b, n, k, r, l, x);
-    if !(o.met & (o.short == 0)) {
-        return Verdict {
-            number: 9,
-            class: c,
-            address: i + 1,
-            why: o.short,
-        };
+    let x = m.code_at(l);
+    if let Err(why) = rules::rule_of(b, m, l, x) {
+        return Err(Refusal::Rule(c, l, why));
     }
-    if !order_of(levels, n, k, r, l, x) {
-        return Verdict {
-            number: 25,
-            class: c,
-            address: i + 1,
-            why: 0,
-        };
+    if !order_of(levels, m, l, x) {
+        return Err(Refusal::Order(c, Addr(i + 1)));
     }
-    Verdict {
-        number: 0,
-        class: 0,
-        address: 0,
-        why: 0,
-    }
+    Ok(())
 }
 
-fn ordered_of(b: &[u8], levels: &[u8], n: u8, c: u8, k: Class, r: &[u8]) -> Verdict
-    ensures { result ≡ ordered_of (program_of b.now) levels.now n c k r.now }
+#[tactic(auto, using(verdicts::proofs::Numbers::searching), unfolding(crate::specs::Loops::ordered_of, ground::specs::Chain::refuse))]
+fn ordered_of(b: &[u8], levels: &[u8], c: u8, m: &Record) -> Result<(), Refusal>
+    ensures { found result ≡ ordered_of (program_of b.now) levels.now m.now.classes c m.now.class m.now.bytes.now }
 {
-    if !forms::first_row(n, k, r) {
-        return Verdict {
-            number: 10,
-            class: c,
-            address: 0,
-            why: 0,
-        };
+    if !forms::first_row(m) {
+        return Err(Refusal::FirstRow(c));
     }
-    let code = k.code;
-    for i in 0..code {
-        let v = ordered_at(b, levels, n, c, k, r, i);
-        if v.number != 0 {
-            return v;
-        }
+    for i in 0..m.class.code {
+        ordered_at(b, levels, c, m, i)?;
     }
-    Verdict {
-        number: 0,
-        class: 0,
-        address: 0,
-        why: 0,
-    }
+    Ok(())
 }
 
-fn ordered_of_class(b: &[u8], levels: &[u8], c: u8) -> Verdict
-    ensures { result ≡ searched b.now levels.now (ordered_places b.now c) }
+#[tactic(auto, using(crate::proofs::FirstBroken::searching))]
+fn ordered_of_class(b: &[u8], levels: &[u8], c: u8) -> Result<(), Refusal>
+    ensures { found result ≡ searched b.now levels.now (ordered_places b.now c) }
 {
-    let k = bundle::class_at(b, c);
-    ordered_of(b, levels, bundle::classes(b), c, k, bundle::part_of(b, k))
+    ordered_of(b, levels, c, &bundle::record_at(b, c))
 }
 
-fn ordered_of_all(b: &[u8], levels: &[u8]) -> Verdict
-    ensures { result ≡ searched b.now levels.now (each (classes b.now) (ordered_places b.now)) }
+#[tactic(auto, using(verdicts::proofs::Numbers::searching))]
+fn ordered_of_all(b: &[u8], levels: &[u8]) -> Result<(), Refusal>
+    ensures { found result ≡ searched b.now levels.now (each (classes b.now) (ordered_places b.now)) }
 {
-    let n = bundle::classes(b);
-    for c in 0..n {
-        let v = ordered_of_class(b, levels, c);
-        if v.number != 0 {
-            return v;
-        }
+    for c in 0..bundle::classes(b) {
+        ordered_of_class(b, levels, c)?;
     }
-    Verdict {
-        number: 0,
-        class: 0,
-        address: 0,
-        why: 0,
-    }
+    Ok(())
 }
 
 // The verdict on a bundle under the lock order that the levels give: levels has eight bytes, byte c is class c's level; any other length is 26, before all else. Neither is written.
-pub fn verify_ordered(b: &[u8], levels: &[u8]) -> Verdict
-    ensures { result ≡ ordered_verdict_of b.now levels.now }
+#[tactic(auto, using(verdicts::proofs::Numbers::searching, crate::proofs::FirstBroken::searching), unfolding(ground::specs::Chain::refuse))]
+pub fn verify_ordered(b: &[u8], levels: &[u8]) -> Result<u8, Refusal>
+    ensures { judgement result ≡ ordered_verdict_of b.now levels.now }
 {
     if levels.len() != 8 {
-        return Verdict {
-            number: 26,
-            class: 0,
-            address: 0,
-            why: 0,
-        };
+        return Err(Refusal::Levels);
     }
-    let u = structure::structure(b);
-    if u.number != 0 {
-        return u;
-    }
-    let v = verifier::forms_of_all(b);
-    if v.number != 0 {
-        return v;
-    }
-    let w = ordered_of_all(b, levels);
-    if w.number != 0 {
-        return w;
-    }
-    Verdict {
-        number: 0,
-        class: bundle::classes(b),
-        address: 0,
-        why: 0,
-    }
+    structure::structure(b)?;
+    verifier::forms_of_all(b)?;
+    ordered_of_all(b, levels)?;
+    Ok(bundle::classes(b))
 }

@@ -1,3 +1,3 @@
-pub mod Copies
+pub mod Rises
 pub mod Works
 pub mod Means

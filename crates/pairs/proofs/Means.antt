@@ -8,8 +8,8 @@ use Rattle.ground.specs.Bytes.{at}
 use Rattle.ground.proofs.Bools.{never}
 use Rattle.ground.proofs.Lists.{first-in}
 use Rattle.bundle.specs.Container.{classes, class_at}
-use Rattle.structure.specs.declared.Verdict.{Verdict}
-use Rattle.structure.specs.Verdicts.{is_bad}
+use Rattle.verdicts.specs.declared.Verdict.{Verdict}
+use Rattle.verdicts.specs.Verdicts.{is_bad}
 use Rattle.structure.specs.Places as structure
 use Rattle.verifier.specs.Places.{Place, structural, form, first, rule, drawn}
 use Rattle.verifier.proofs.FirstBroken.{agrees}

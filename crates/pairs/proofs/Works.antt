@@ -11,24 +11,29 @@ use lib.ListN.{length}
 use lib.Seq.{ext_get_or}
 use Rattle.ground.specs.Bytes.{at}
 use lib.Dec.{eqb}
-use borrow.Author.Tests.{eq-eqb, ne_eqb, eqb-true, not-true, not-false}
-use Rattle.ground.proofs.Bools.{never, passed, failed}
+use borrow.Author.Tests.{eq-eqb, eqb-true, not-false}
+use Rattle.std.specs.Prelude.{Result, Ok, Err, is_ok}
+use Rattle.ground.proofs.Bools.{never}
 use Rattle.ground.proofs.Chain.{then-elim}
 use Rattle.structure.specs.Structure.{structure_of}
 use Rattle.structure.proofs.Structured.{lengths}
 use Rattle.bundle.specs.Container.{classes}
-use Rattle.structure.specs.declared.Verdict.{Verdict}
-use Rattle.structure.specs.Verdicts.{verdict, is_bad}
+use Rattle.verdicts.specs.declared.Refusal.{Refusal}
+use Rattle.verdicts.specs.declared.Verdict.{Verdict}
+use Rattle.verdicts.specs.Numbers.{numbers, judgement}
+use Rattle.verdicts.specs.Verdicts.{verdict, is_bad}
+use Rattle.verdicts.proofs.Numbers.{refused}
 use Rattle.verifier.specs.Verdict.{verdict_of}
 use Rattle.shape.specs.PairBytes.{place_of, Reference, PairByte}
 use Rattle.shape.specs.Shape.{shape_verdict}
 use Rattle.shape.specs.Apart.{all_apart, Readable}
-use Rattle.shape.proofs.FirstBroken.{shape-parts}
+use Rattle.shape.proofs.FirstBroken.{shape-judges, shape-parts}
 use Rattle.choices.specs.Choice.{Alike, Choice, Accepted, Below, Least}
 use Rattle.pairs.specs.Answer.{Answer, malformed, shared, none, filled, OneAnswer}
 use Rattle.passes.specs.Passes.{Reading, Lower, Lowest, Cleared, Anything, Every, Settled}
-use Rattle.pairs.specs.Works.{Worked, copied}
-use Rattle.pairs.proofs.Copies.{put_back}
+use Rattle.pairs.specs.declared.OutOfRange.{OutOfRange}
+use Rattle.pairs.specs.Rises.{settled_in}
+use Rattle.pairs.specs.Works.{Sought, Worked}
 use Rattle.choices.proofs.Complete.{complete}
 use Rattle.choices.proofs.Slots.{enough-still}
 
@@ -113,65 +118,48 @@ module _ (b : List ℕ) (R : Readable b) (bytes : (p : ℕ) → at b p < 256) wh
       not-accepted e f y D A =
           f (ap (λ (v : Verdict). v.number) (complete b ends-lower.readable z y ends-lower.choice D A (ends-lower.below y D A) (enough-still b ends-lower.readable z ends-lower.choice (λ c l s r. S.met e b begins-lower c l s r))))
 
--- ---- what the code does with it: b is kept in a store, cleared (x), settled (z)
-module _ (b store₀ store x z : List ℕ) (o : ℕ) (bytes : (p : ℕ) → at b p < 256) (roomy : length b ≤ length store₀) (kept : store ≡ copied b store₀)
-    (P : Cleared Anything Every b x) (S : Settled x o z) (done : o ≡ 1 → ⊥) where
-  restored : (w : List ℕ) → w ≡ copied store z → w ≡ b
-  restored w e = e ∙ rw kept (put_back b store₀ z (S.long ∙ P.long) roomy)
+-- ---- what the code finds: b is cleared (x), settled (z), and judged
+module _ (b x z : List ℕ) (bytes : (p : ℕ) → at b p < 256) (P : Cleared Anything Every b x) where
+  pub sought-over : (r : Result Unit OutOfRange) → is_ok r ≡ false → Settled x (settled_in r) z → Sought b false z
+  sought-over (Ok _) f S = never refl f
+  sought-over (Err _) f S = record { found = λ R g. never g refl; nothing = λ R g. out_of_range b R bytes x P 2 z S refl; long = S.long ∙ P.long }
 
-  pub works-out-of-range : (w : List ℕ) → o ≡ 2 → w ≡ copied store z → Worked b false w
-  works-out-of-range w e r =
+  pub sought-judged : (r : Result Unit OutOfRange) → is_ok r ≡ true → Settled x (settled_in r) z → (v : Result ℕ Refusal) → judgement v ≡ verdict_of z → Sought b (is_ok v) z
+  sought-judged (Ok _) e S (Ok n) q = record { found = λ R f. found-least b R bytes x P 0 z S (rw (← q)); nothing = λ R f. never refl f; long = S.long ∙ P.long }
+  sought-judged (Ok _) e S (Err k) q =
       record {
         found = λ R f. never f refl;
-        back = λ R f. restored w r;
-        nothing = λ R f. out_of_range b R bytes x P o z S e;
+        nothing = λ R f. not-accepted b R bytes x P 0 z S refl (λ a. never (rw q at (refused k)) (ap not (eq-eqb (verdict_of z).number 0 a)));
+        long = S.long ∙ P.long;
       }
+  sought-judged (Err _) e S v q = never e refl
 
-  pub works-not-accepted : (w : List ℕ) (v : Verdict) → (o ≡ 2 → ⊥) → v ≡ verdict_of z → (v.number ≡ 0 → ⊥) → w ≡ copied store z → Worked b false w
-  works-not-accepted w v e q h r =
-      record {
-        found = λ R f. never f refl;
-        back = λ R f. restored w r;
-        nothing = λ R f. not-accepted b R bytes x P o z S (omega (arith, S.answer)) (λ a. h (rw q a));
-      }
+-- ---- the answer of the code
+module _ (b : List ℕ) where
+  pub answers-malformed : (e : Refusal) → numbers e ≡ shape_verdict b → Answer b (numbers e) b
+  answers-malformed e q = rw q (malformed (rw q at (refused e)))
 
-  pub works : (v : Verdict) → v ≡ verdict_of z → v.number ≡ 0 → Worked b true z
-  works v q h =
-      record {
-        found = λ R f. found-least b R bytes x P o z S (rw q at h);
-        back = λ R f. never refl f;
-        nothing = λ R f. never refl f;
-      }
-
--- ---- the answer of the code: v is 1 to 8 or 0, t whether the records are apart
-bad-of : (v : Verdict) → (v.number ≡ 0 → ⊥) → is_bad v ≡ true
-bad-of v h = ap not (ne_eqb v.number 0 h)
-
-fine_of : (v : Verdict) → v.number ≡ 0 → is_bad v ≡ false
-fine_of v h = ap not (eq-eqb v.number 0 h)
-
-module _ (b : List ℕ) (v : Verdict) (ev : v ≡ shape_verdict b) where
-  pub answers-malformed : (v.number ≡ 0 → ⊥) → Answer b v b
-  answers-malformed h = rw ev (malformed (rw ev at (bad-of v h)))
-
-  module _ (h : v.number ≡ 0) where
+  module _ (n : ℕ) (q : verdict 0 n 0 ≡ shape_verdict b) where
     fine : is_bad (shape_verdict b) ≡ false
-    fine = rw ev at (fine_of v h)
+    fine = rw (← q)
+
+    count : n ≡ classes b
+    count = let j = shape-judges b in ap (λ (v : Verdict). v.class) (q ∙ j.only (j.zero (rw (← q))))
 
     pub short : length b ≤ 65535
     short = (lengths b (eqb-true _ 0 (not-false (eqb (structure_of b).number 0) (then-elim is_bad (structure_of b) _ (rw (shape-parts b) at fine)).0))).1
 
     module _ (t : Bool) (et : t ≡ all_apart b) where
-      pub answers-shared : not t ≡ true → Answer b (verdict 23 0 0) b
-      answers-shared f = shared fine (failed et f)
+      pub answers-shared : t ≡ false → Answer b (verdict 23 0 0) b
+      answers-shared f = shared fine (sym et ∙ f)
 
-      module _ (f : not t ≡ false) where
+      module _ (f : t ≡ true) where
         ready : Readable b
-        ready = record { shaped = fine; apart = passed et f }
+        ready = record { shaped = fine; apart = sym et ∙ f }
 
         module _ (w : Bool) (x : List ℕ) (W : Worked b w x) where
-          pub answers-none : not w ≡ true → Answer b (verdict 22 0 0) x
-          answers-none g = let e = not-true w g in rw (W.back ready e) (none ready (W.nothing ready e))
+          pub answers-none : w ≡ false → Answer b (verdict 22 0 0) x
+          answers-none g = rw (W.back g) (none ready (W.nothing ready g))
 
-          pub answers-filled : (n : ℕ) → n ≡ classes b → not w ≡ false → Answer b (verdict 0 n 0) x
-          answers-filled n en g = rw en (filled ready (W.found ready (not-false w g)))
+          pub answers-filled : w ≡ true → Answer b (verdict 0 n 0) x
+          answers-filled g = rw count (filled ready (W.found ready g))

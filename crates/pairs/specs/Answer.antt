@@ -1,8 +1,8 @@
 -- Document 02, Q-5: what the call gives, and what the lent bundle holds then. b is the bundle as it came, v the answer, x the bundle as it is left.
 use Rattle.std.specs.Prelude.{List, ◌≡◌, true, false, ℕ, ◌≤◌}
 use Rattle.bundle.specs.Container.{classes}
-use Rattle.structure.specs.declared.Verdict.{Verdict}
-use Rattle.structure.specs.Verdicts.{verdict, is_bad}
+use Rattle.verdicts.specs.declared.Verdict.{Verdict}
+use Rattle.verdicts.specs.Verdicts.{verdict, is_bad}
 use Rattle.structure.specs.Structure.{structure_of}
 use Rattle.verifier.specs.Verdict.{verdict_of}
 use Rattle.shape.specs.Shape.{shape_verdict}

@@ -2,11 +2,10 @@
 use mathlib.Core.List.{List}
 use mathlib.Core.Path.{◌≡◌, refl, ◌∙◌}
 use mathlib.Core.Logic.{◌⊎◌, inl, inr}
-use Prim.Native.Nat.{ℕ, ◌+◌, ◌-◌, ◌≤◌, ◌<◌}
+use Prim.Native.Nat.{ℕ, ◌+◌, ◌≤◌, ◌<◌}
 use native.Mathlib.Omega.{arith}
 use native.Mathlib.Decide.{dec_lt}
 use lib.ListN.{length}
-use Rattle.ground.specs.Bytes.{at}
 use Rattle.bundle.specs.declared.Class.{Class}
 use Rattle.bundle.specs.Container.{classes, class_at, part_of}
 use Rattle.entries.specs.Entries.{min_end}

@@ -3,9 +3,9 @@ use mathlib.Core.List.{List}
 use mathlib.Core.Path.{◌≡◌, refl, sym, ap, ◌∙◌}
 use mathlib.Core.Logic.{inl, inr}
 use mathlib.Core.Bool.{Bool, true, false, cond, ◌||◌}
-use Prim.Native.Nat.{ℕ, zero, suc, ◌+◌, ◌*◌, ◌-◌, ◌≤◌, ◌<◌}
+use Prim.Native.Nat.{ℕ, zero, suc, ◌+◌, ◌*◌, ◌≤◌, ◌<◌}
 use native.Mathlib.Omega.{arith}
-use native.Mathlib.Decide.{ℕ_discrete, dec_lt}
+use native.Mathlib.Decide.{ℕ_discrete}
 use lib.ListN.{length, get_or, set, length-set, replicate}
 use lib.Seq.{get_or-set_same, get_or-set_other}
 use lib.Dec.{eqb}
@@ -14,7 +14,7 @@ use Rattle.ground.specs.Bytes.{at}
 use Rattle.ground.specs.Bounded.{count_below}
 use Rattle.ground.proofs.Bools.{never, or-true}
 use Rattle.ground.proofs.Bounded.{count_under}
-use Rattle.ground.proofs.Writes.{set_below_lem, set-length}
+use Rattle.ground.proofs.Writes.{set_below_lem}
 use Rattle.bundle.specs.declared.Class.{Class}
 use Rattle.bundle.specs.Container.{classes, class_at, part_of, instruction_at}
 use Rattle.structure.proofs.Structured.{class-limits}
@@ -23,7 +23,7 @@ use Rattle.shape.proofs.Readable.{good}
 use Rattle.choices.specs.Asked.{Enough}
 use Rattle.choices.proofs.Choices.{instruction-same}
 use Rattle.passes.specs.Passes.{Lower, room, goal_of, code_of, Reads, Raised, Given, GivenClass, EverySlot, ClassSettled, Settled}
-use Rattle.passes.specs.Marks.{is_marked, marks_left, goal_at, goals, Marked, Found, Looked, Going}
+use Rattle.passes.specs.Marks.{is_marked, marks_left, goal_at, goals, Marked, Looked, Going}
 use Rattle.passes.proofs.Writes.{reads}
 use Rattle.passes.proofs.Clears.{class-is, count-is}
 
@@ -91,10 +91,6 @@ module _ (k : Class) (r : List ℕ) where
   pub goal-at : k.code ≤ 256 → (l : ℕ) → l ≤ k.code → at (goals k r) l ≡ goal_at k r l
   unfolding goals
   goal-at h l q = set_below_lem (goal_at k r) (replicate 257 0) (k.code + 1) l 0 (omega arith) (omega arith)
-
-  pub goals-long : length (goals k r) ≡ 257
-  unfolding goals
-  goals-long = set-length (goal_at k r) (replicate 257 0) (k.code + 1)
 
 -- ---- the rows that read row l are marked, place after place
 abbrev pub MarkedBelow : List ℕ → ℕ → ℕ → List Bool → List Bool → Type 0
@@ -164,39 +160,13 @@ module _ (g : List ℕ) (l : ℕ) (m : List Bool) where
           go true d = never (on j d) q
           go false d = d
 
--- ---- marks are looked for, from the last place on
-pub found-on : (m : List Bool) (l top : ℕ) → ((j : ℕ) → l < j → j ≤ top → is_marked m j ≡ false) → is_marked m l ≡ false → (j : ℕ) → l - 1 < j → j ≤ top → is_marked m j ≡ false
-found-on m l top f e j h q = go (dec_lt l j)
-  where
-    go : Dec (l < j) → is_marked m j ≡ false
-    go (yes k) = f j k q
-    go (no k) = let d : j ≡ l = omega arith in rw d e
-
-module _ (m : List Bool) (code from l : ℕ) (d : Found m 0 from l) where
-  pub found_first : from ≤ code → (l ≡ 0 → ⊥) → Found m 0 code l
-  found_first h f = record { none = λ e. absurd (f e); some = λ g. let s = d.some f in (s.0, omega (arith, s.1), s.2) }
-
-  pub found-second : l ≡ 0 → (o : ℕ) → Found m from code o → Found m 0 code o
-  found-second e o f = record { none = λ z j h q. go z j h q (dec_lt from j); some = λ g. let s = f.some g in (omega (arith, s.0), s.1, s.2) }
-    where
-      go : o ≡ 0 → (j : ℕ) → 0 < j → j ≤ code → Dec (from < j) → is_marked m j ≡ false
-      go z j h q (yes k) = f.none z j k q
-      go z j h q (no k) = d.none e j h (omega arith)
-
-pub found-upto : {m : List Bool} {code o : ℕ} → Found m 0 code o → o ≤ code
-found-upto {m} {code} {o} d = go (ℕ_discrete o 0)
-  where
-    go : Dec (o ≡ 0) → o ≤ code
-    go (yes e) = omega arith
-    go (no e) = (d.some e).1
-
 -- ---- a look at row l
 module _ (n c : ℕ) (k : Class) (g : List ℕ) (l : ℕ) (m : List Bool) (x : List ℕ) where
   pub look_none : (o : ℕ) (x' : List ℕ) → (o ≡ 1 → ⊥) → Raised (Given n c k l) c l EverySlot x o x' → Looked n c k g l m x o (set m l false) x'
   look_none o x' f d = record { row = d; long = length-set m l false; none = λ e. refl; risen = λ e. absurd (f e) }
 
-  pub look-risen : (o : ℕ) (m' : List Bool) (x' : List ℕ) → o ≡ 1 → Raised (Given n c k l) c l EverySlot x o x' → Marked g k.code l (set m l false) m' → Looked n c k g l m x 1 m' x'
-  look-risen o m' x' e d w = record { row = rw e at d; long = w.long ∙ length-set m l false; none = λ z. absurd (omega arith); risen = λ z. w }
+  pub look-risen : (m' : List Bool) (x' : List ℕ) → Raised (Given n c k l) c l EverySlot x 1 x' → Marked g k.code l (set m l false) m' → Looked n c k g l m x 1 m' x'
+  look-risen m' x' d w = record { row = d; long = w.long ∙ length-set m l false; none = λ z. absurd (omega arith); risen = λ z. w }
 
 -- ---- on the way
 module _ (n c : ℕ) (k : Class) (x₀ : List ℕ) (ek : k ≡ class_at x₀ c) (few : k.code ≤ 256) (g : List ℕ) (eg : g ≡ goals k (part_of x₀ k)) where
@@ -316,9 +286,6 @@ class-long n c k x ek h =
   where
     few : (b : List ℕ) → GivenClass n c b → Lower b x → ⊥
     few b g L = omega (arith, (class-limits b (good b L.readable) c g.1).code_256, ap (λ (i : Class). i.code) (class-is c k x ek b (g.1, reads L)))
-
-pub settled-zero : {o : ℕ} → o ≤ 2 → (o ≡ 1 → ⊥) → (o ≡ 2 → ⊥) → o ≡ 0
-settled-zero h e f = omega arith
 
 -- ---- class after class
 pub record ClassesSettled (i : ℕ) (x₀ x : List ℕ) : Type 0 where

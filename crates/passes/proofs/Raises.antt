@@ -28,7 +28,7 @@ use Rattle.choices.proofs.Choices.{instruction-same}
 use Rattle.choices.proofs.Complete.{agree, in_table}
 use Rattle.choices.proofs.Slots.{forced-entry}
 use Rattle.passes.specs.Passes.{raised_to, Raise, still, over, raised, Reading, Lower, room, code_of, Reads, Raised, Given, GivenEntry, TheSlot, EverySlot, either}
-use Rattle.passes.proofs.Two.{two, two-long, two-end, two-dip, by_byte, two-room, two-less}
+use Rattle.passes.proofs.Two.{two-long, two-end, two-dip, by_byte, two-room, two-less}
 use Rattle.passes.proofs.Writes.{reads, two_choice, other_row, within, a-reference, of-kind-3}
 use Rattle.passes.proofs.Follows.{need-stays, enough-stays}
 use Rattle.passes.proofs.Clears.{RowThen, depth_is, placed-in}

@@ -1,5 +1,5 @@
 -- No promise speaks of this. A mark for each address of a class whose row is still to be looked at: m before, m' after. Place 0 is no address.
-use Rattle.std.specs.Prelude.{List, ◌≡◌, Bool, true, false, ℕ, ◌+◌, ◌≤◌, ◌<◌, length, get_or, replicate, set}
+use Rattle.std.specs.Prelude.{List, ◌≡◌, Bool, true, false, ℕ, ◌+◌, ◌≤◌, ◌<◌, Option, None, Some, length, get_or, replicate, set}
 use Rattle.ground.specs.Bytes.{at}
 use Rattle.ground.specs.Bounded.{set_below, count_below}
 use Rattle.bundle.specs.declared.Class.{Class}
@@ -28,10 +28,10 @@ pub record Marked (g : List ℕ) (code l : ℕ) (m m' : List Bool) : Type 0 wher
   pub next : (j : ℕ) → l ≡ j + 1 → is_marked m' j ≡ true
   pub goal : (j : ℕ) → j ≤ code → l ≡ at g j → is_marked m' j ≡ true
 
--- an address above floor, up to top, that is marked; 0 where there is none
-pub record Found (m : List Bool) (floor top o : ℕ) : Type 0 where
-  pub none : o ≡ 0 → (j : ℕ) → floor < j → j ≤ top → is_marked m j ≡ false
-  pub some : (o ≡ 0 → ⊥) → (floor < o) × (o ≤ top) × (is_marked m o ≡ true)
+-- an address above floor, up to top, that is marked, or none
+abbrev pub Found : List Bool → ℕ → ℕ → Option ℕ → Type 0
+Found m floor top None = (j : ℕ) → floor < j → j ≤ top → is_marked m j ≡ false
+Found m floor top (Some l) = (floor < l) × (l ≤ top) × (is_marked m l ≡ true)
 
 -- row l is looked at: its mark is taken away, it is raised, and where it rose the rows that read it are marked
 pub record Looked (n c : ℕ) (k : Class) (g : List ℕ) (l : ℕ) (m : List Bool) (x : List ℕ) (o : ℕ) (m' : List Bool) (x' : List ℕ) : Type 0 where

@@ -19,7 +19,7 @@ use Rattle.threads.specs.declared.Thread.{Thread}
 use Rattle.threads.specs.Threads.{var_of}
 use Rattle.state.specs.declared.State.{State}
 use Rattle.state.specs.State.{thread_at, others_free, lowest_free}
-use Rattle.turns.specs.declared.Stepped.{Stepped}
+use Rattle.turns.specs.Stepped.{Stepped}
 use Rattle.turns.specs.Answers.{refused, test}
 use Rattle.turns.specs.Faults.{lock_of}
 use Rattle.turns.specs.Waits.{wait_of}

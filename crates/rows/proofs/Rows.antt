@@ -2,10 +2,11 @@
 use mathlib.Core.Path.{◌≡◌, refl}
 use mathlib.Core.Bool.{Bool, true, false, cond}
 use mathlib.Core.List.{List}
-use Prim.Native.Nat.{ℕ, ◌+◌, ◌*◌, ◌<◌}
+use Prim.Native.Nat.{ℕ, ◌+◌, ◌*◌, ◌<◌, ◌≤◌}
 use lib.Dec.{ltb}
 use lib.ListN.{length}
 use native.Mathlib.Omega.{arith}
+use borrow.Author.Tests.{le-ltb, lt-ltb}
 use Rattle.ground.specs.Bytes.{at, quad}
 use Rattle.ground.specs.Chain.{refuse}
 use Rattle.bundle.specs.declared.Class.{Class}
@@ -35,7 +36,7 @@ module _ (n : ℕ) (r : List ℕ) (bytes : (i : ℕ) → at r i < 256) where
   unfolding variable_at variable_word
   variable-bytes s i = entry-bytes _
 
-  -- THEOREM: .. and the stack entry j
+  -- THEOREM: .. and the stack entry j, of a class with so many variables
   pub stack-bytes : (k : Class) (s j : ℕ) → entry_from n (entry_word k r s j) ≡ stack_at n k r s j
   unfolding stack_at entry_word stack_word refuse
   stack-bytes k s j = either (ltb j k.limit)
@@ -43,3 +44,13 @@ module _ (n : ℕ) (r : List ℕ) (bytes : (i : ℕ) → at r i < 256) where
       either : (t : Bool) → entry_from n (cond t (quad r (s + 4 * k.vars + 1 + 4 * j)) 0) ≡ cond t (entry_at n r (s + 4 * k.vars + 1 + 4 * j)) Blank
       either true = entry-bytes _
       either false = blank n
+
+  -- .. where there is one
+  pub stack-there : (k : Class) (s vars j : ℕ) → k.vars ≡ vars → j < k.limit → quad r (s + 4 * vars + 1 + 4 * j) ≡ entry_word k r s j
+  unfolding entry_word stack_word refuse
+  stack-there k s vars j e h = rw (← e, lt-ltb j k.limit h) refl
+
+-- .. and none where there is none
+pub stack-none : (n : ℕ) (r : List ℕ) (k : Class) (s j : ℕ) → k.limit ≤ j → (0 ≡ entry_word k r s j) × (entry_from n 0 ≡ stack_at n k r s j)
+unfolding stack_at entry_word refuse
+stack-none n r k s j h = (rw (le-ltb j k.limit h) refl, rw (le-ltb j k.limit h) (blank n))

@@ -3,6 +3,7 @@ use Rattle.std.specs.Prelude.{List, ℕ, ◌+◌, ◌-◌, ◌*◌, ltb, length}
 use Rattle.ground.specs.Bytes.{at}
 use Rattle.ground.specs.Chain.{refuse}
 use Rattle.bundle.specs.declared.Class.{Class}
+use Rattle.bundle.specs.declared.Record.{Record}
 use Rattle.bundle.specs.Container.{width, descriptor_count}
 use Rattle.entries.specs.Entries.{Entry, Blank, entry_of}
 
@@ -43,3 +44,11 @@ row_from n k r s = record { variable = variable_at n r s; depth = depth_at r s k
 -- the row of address l
 abbrev pub row_at : ℕ → Class → List ℕ → ℕ → Row
 row_at n k r l = row_from n k r (row_start k l)
+
+-- the row of a record that begins at s
+abbrev pub row_in : Record → ℕ → Row
+row_in m s = row_from m.classes m.class m.bytes.now s
+
+-- .. and the one of address l
+abbrev pub row_of : Record → ℕ → Row
+row_of m l = row_at m.classes m.class m.bytes.now l

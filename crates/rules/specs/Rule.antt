@@ -1,8 +1,10 @@
 -- A rule as it is written: what it asks, and its edges. From that one writing come "the rule holds" and its why (document 02, Q-1).
-use Rattle.std.specs.Prelude.{List, [], ◌∷◌, Bool, true, false, cond, ◌&&◌, ℕ, eqb}
+use Rattle.std.specs.Prelude.{List, [], ◌∷◌, Bool, true, false, cond, ◌&&◌, ℕ, eqb, Result, Ok, Err}
 use Rattle.ground.specs.Chain.{refuse}
 use Rattle.matching.specs.Matching.{Edge, meets, then_short, edge_short}
-use Rattle.rules.specs.declared.Ruling.{Ruling}
+use Rattle.entries.specs.Shorts.{short_number}
+use Rattle.verdicts.specs.declared.Why.{Why}
+use Rattle.verdicts.specs.declared.Why.TheVariants.{Unmet, Misfit}
 
 -- what is asked of row l, and the edges: row l+1 before another row
 pub record Rule : Type 0 where
@@ -37,9 +39,23 @@ rule_holds vars r = met r && eqb (short_of vars r) 0
 unfoldable pub why : ℕ → Rule → ℕ
 why vars r = cond (met r) (short_of vars r) 0
 
--- both at once, as the code finds them
+-- both at once: whether what is asked is met, and what is short
+pub record Ruling : Type 0 where
+  pub met : Bool
+  pub short : ℕ
+
 abbrev pub unmet : Ruling
 unmet = record { met = false; short = 0 }
 
 unfoldable pub ruling : ℕ → Rule → Ruling
 ruling vars r = refuse (met r) unmet (record { met = true; short = short_of vars r })
+
+-- what the code tells of it
+abbrev pub ruling_in : Result Unit Why → Ruling
+ruling_in (Ok _) = record { met = true; short = 0 }
+ruling_in (Err Unmet) = unmet
+ruling_in (Err (Misfit s)) = record { met = true; short = short_number s }
+
+abbrev pub asked : Bool → Result Unit Why
+asked true = Ok tt
+asked false = Err Unmet

@@ -1,314 +1,239 @@
-// The rules of document 01, instruction by instruction: what each asks, and its edges. Rows p (of address l), q (of l+1) and h (the target's or handler's) are given by where they begin.
+// The rules of document 01, instruction by instruction: what each asks, and its edges. Rows p (of address l), q (of l+1), and the target's or handler's are given by where they begin.
 #![tactic(auto)]
 
 ghost use Rattle.std.specs.Prelude.{◌≡◌, ◌&&◌, true, cond, ◌+◌, eqb};
 ghost use Rattle.ground.specs.Bytes.{at};
-ghost use Rattle.ground.specs.Chain.{refuse};
+ghost use Rattle.bundle.specs.Container.{exception};
 ghost use Rattle.bundle.specs.Program.{program_of};
+ghost use Rattle.entries.specs.Shorts.{short_in};
 ghost use Rattle.entries.specs.Words.{entry_from};
 ghost use Rattle.instructions.specs.Table.{decoded};
-ghost use Rattle.rows.specs.Rows.{row_from, row_at};
+ghost use Rattle.rows.specs.Rows.{row_start, row_in, row_of};
 ghost use Rattle.matching.specs.Matching.{emptied, wants, edge, then_short, edge_short, vars_go};
-ghost use Rattle.rules.specs.Rule.{met, unmet, ruling, all_meet, short_along};
+ghost use Rattle.rules.specs.Rule.{met, asked, ruling, ruling_in, all_meet, short_along};
 ghost use Rattle.rules.specs.Rules.{inc_rule, pop_rule, push0_rule, load_rule, store_rule, if_rule, exit_rule, failure_goes, failure_thrown, new_rule, null_goes, null_thrown, enter_rule, owner_goes, get_rule, put_rule, throw_rule, argument_goes, object_goes, arguments_go, start_rule, return_rule, rule_of};
 
-use bundle::Class;
-use instructions::{Addr, Code};
+use bundle::Record;
+use entries::Short;
+use instructions::{Addr, Code, Instruction};
+use verdicts::Why;
 
-// Whether what a rule asks is there, and then the first comparison that isn't 0.
+// A throw: the class of what is thrown, the handler that it goes to (0 is none), and where the handler's row begins.
 #[derive(Clone, Copy)]
-pub struct Ruling {
-    pub met: bool,
-    pub short: u8,
+struct Catch {
+    exception: u8,
+    handler: Addr,
+    row: u32,
 }
 
-fn judged(met: bool, short: u8) -> Ruling
-    ensures { result ≡ refuse met unmet (record { met = true; short = short }) }
+// What a rule asks is there, or not.
+fn asked(met: bool) -> Result<(), Why>
+    ensures { result ≡ asked met }
 {
-    if !met {
-        return Ruling {
-            met: false,
-            short: 0,
-        };
-    }
-    Ruling { met: true, short }
+    if met { Ok(()) } else { Err(Why::Unmet) }
 }
 
-fn then_short(first: u8, second: u8) -> u8
-    ensures { result ≡ then_short first second }
+fn inc_met(m: &Record, p: u32, q: u32) -> bool
+    ensures { result ≡ met (inc_rule (row_in m.now p) (row_in m.now q)) }
 {
-    if first != 0 {
-        return first;
-    }
-    second
-}
-
-fn inc_met(n: u8, k: Class, r: &[u8], p: u32, q: u32) -> bool
-    ensures { result ≡ met (inc_rule (row_from n k r.now p) (row_from n k r.now q)) }
-{
-    let d = matching::depth_of(k, r, p);
+    let d = matching::depth_of(m, p);
     (1 <= d)
-        & entries::is_int(n, rows::stack_word(n, k, r, p, 0))
-        & (d == matching::depth_of(k, r, q))
+        & entries::is_int(m.classes, rows::stack_word(m, p, 0))
+        & (d == matching::depth_of(m, q))
 }
 
-fn inc_rule(n: u8, k: Class, r: &[u8], p: u32, q: u32) -> Ruling
-    ensures { result ≡ ruling k.vars (inc_rule (row_from n k r.now p) (row_from n k r.now q)) }
+fn inc_rule(m: &Record, p: u32, q: u32) -> Result<(), Why>
+    ensures { ruling_in result ≡ ruling m.now.class.vars (inc_rule (row_in m.now p) (row_in m.now q)) }
 {
-    if !inc_met(n, k, r, p, q) {
-        return Ruling {
-            met: false,
-            short: 0,
-        };
-    }
-    Ruling {
-        met: true,
-        short: matching::counted_edge(n, k, r, p, q),
-    }
+    asked(inc_met(m, p, q))?;
+    matching::counted_edge(m, p, q)?;
+    Ok(())
 }
 
-fn pop_met(n: u8, k: Class, r: &[u8], p: u32, q: u32) -> bool
-    ensures { result ≡ met (pop_rule (row_from n k r.now p) (row_from n k r.now q)) }
+fn pop_met(m: &Record, p: u32, q: u32) -> bool
+    ensures { result ≡ met (pop_rule (row_in m.now p) (row_in m.now q)) }
 {
-    entries::may_go(n, rows::stack_word(n, k, r, p, 0))
-        & (matching::depth_of(k, r, p) == matching::depth_of(k, r, q) + 1)
+    entries::may_go(m.classes, rows::stack_word(m, p, 0))
+        & (matching::depth_of(m, p) == matching::depth_of(m, q) + 1)
 }
 
-fn pop_rule(n: u8, k: Class, r: &[u8], p: u32, q: u32) -> Ruling
-    ensures { result ≡ ruling k.vars (pop_rule (row_from n k r.now p) (row_from n k r.now q)) }
+fn pop_rule(m: &Record, p: u32, q: u32) -> Result<(), Why>
+    ensures { ruling_in result ≡ ruling m.now.class.vars (pop_rule (row_in m.now p) (row_in m.now q)) }
 {
-    if !pop_met(n, k, r, p, q) {
-        return Ruling {
-            met: false,
-            short: 0,
-        };
-    }
-    Ruling {
-        met: true,
-        short: matching::popped_edge(n, k, r, 1, p, q),
-    }
+    asked(pop_met(m, p, q))?;
+    matching::popped_edge(m, 1, p, q)?;
+    Ok(())
 }
 
-fn push0_met(n: u8, k: Class, r: &[u8], p: u32, q: u32) -> bool
-    ensures { result ≡ met (push0_rule (row_from n k r.now p) (row_from n k r.now q)) }
+fn push0_met(m: &Record, p: u32, q: u32) -> bool
+    ensures { result ≡ met (push0_rule (row_in m.now p) (row_in m.now q)) }
 {
-    matching::depth_of(k, r, p) + 1 == matching::depth_of(k, r, q)
+    matching::depth_of(m, p) + 1 == matching::depth_of(m, q)
 }
 
-fn push0_rule(n: u8, k: Class, r: &[u8], p: u32, q: u32) -> Ruling
-    ensures { result ≡ ruling k.vars (push0_rule (row_from n k r.now p) (row_from n k r.now q)) }
+fn push0_rule(m: &Record, p: u32, q: u32) -> Result<(), Why>
+    ensures { ruling_in result ≡ ruling m.now.class.vars (push0_rule (row_in m.now p) (row_in m.now q)) }
 {
-    if !push0_met(n, k, r, p, q) {
-        return Ruling {
-            met: false,
-            short: 0,
-        };
-    }
-    Ruling {
-        met: true,
-        short: matching::int_edge(n, k, r, p, q),
-    }
+    asked(push0_met(m, p, q))?;
+    matching::int_edge(m, p, q)?;
+    Ok(())
 }
 
-fn load_met(n: u8, k: Class, r: &[u8], v: u8, p: u32, q: u32) -> bool
-    ensures { result ≡ met (load_rule v (row_from n k r.now p) (row_from n k r.now q)) }
+fn load_met(m: &Record, v: u8, p: u32, q: u32) -> bool
+    ensures { result ≡ met (load_rule v (row_in m.now p) (row_in m.now q)) }
 {
-    matching::depth_of(k, r, p) + 1 == matching::depth_of(k, r, q)
+    matching::depth_of(m, p) + 1 == matching::depth_of(m, q)
 }
 
-fn load_rule(n: u8, k: Class, r: &[u8], v: u8, p: u32, q: u32) -> Ruling
-    ensures { result ≡ ruling k.vars (load_rule v (row_from n k r.now p) (row_from n k r.now q)) }
+fn load_rule(m: &Record, v: u8, p: u32, q: u32) -> Result<(), Why>
+    ensures { ruling_in result ≡ ruling m.now.class.vars (load_rule v (row_in m.now p) (row_in m.now q)) }
 {
-    if !load_met(n, k, r, v, p, q) {
-        return Ruling {
-            met: false,
-            short: 0,
-        };
-    }
-    Ruling {
-        met: true,
-        short: matching::loaded_edge(n, k, r, v, p, q),
-    }
+    asked(load_met(m, v, p, q))?;
+    matching::loaded_edge(m, v, p, q)?;
+    Ok(())
 }
 
-fn store_met(n: u8, k: Class, r: &[u8], v: u8, p: u32, q: u32) -> bool
-    ensures { result ≡ met (store_rule v (row_from n k r.now p) (row_from n k r.now q)) }
+fn store_met(m: &Record, v: u8, p: u32, q: u32) -> bool
+    ensures { result ≡ met (store_rule v (row_in m.now p) (row_in m.now q)) }
 {
-    entries::may_go(n, rows::variable_word(n, k, r, p, v))
-        & (matching::depth_of(k, r, p) == matching::depth_of(k, r, q) + 1)
+    entries::may_go(m.classes, rows::variable_word(m, p, v))
+        & (matching::depth_of(m, p) == matching::depth_of(m, q) + 1)
 }
 
-fn store_rule(n: u8, k: Class, r: &[u8], v: u8, p: u32, q: u32) -> Ruling
-    ensures { result ≡ ruling k.vars (store_rule v (row_from n k r.now p) (row_from n k r.now q)) }
+fn store_rule(m: &Record, v: u8, p: u32, q: u32) -> Result<(), Why>
+    ensures { ruling_in result ≡ ruling m.now.class.vars (store_rule v (row_in m.now p) (row_in m.now q)) }
 {
-    if !store_met(n, k, r, v, p, q) {
-        return Ruling {
-            met: false,
-            short: 0,
-        };
-    }
-    Ruling {
-        met: true,
-        short: matching::stored_edge(n, k, r, v, p, q),
-    }
+    asked(store_met(m, v, p, q))?;
+    matching::stored_edge(m, v, p, q)?;
+    Ok(())
 }
 
-fn if_met(n: u8, k: Class, r: &[u8], p: u32, q: u32, h: u32) -> bool
-    ensures { result ≡ met (if_rule (row_from n k r.now p) (row_from n k r.now q) (row_from n k r.now h)) }
+fn if_met(m: &Record, p: u32, q: u32, h: u32) -> bool
+    ensures { result ≡ met (if_rule (row_in m.now p) (row_in m.now q) (row_in m.now h)) }
 {
-    let d = matching::depth_of(k, r, p);
-    entries::is_int(n, rows::stack_word(n, k, r, p, 0))
-        & ((d == matching::depth_of(k, r, q) + 1) & (d == matching::depth_of(k, r, h) + 1))
+    let d = matching::depth_of(m, p);
+    entries::is_int(m.classes, rows::stack_word(m, p, 0))
+        & ((d == matching::depth_of(m, q) + 1) & (d == matching::depth_of(m, h) + 1))
 }
 
-fn if_rule(n: u8, k: Class, r: &[u8], p: u32, q: u32, h: u32) -> Ruling
-    ensures { result ≡ ruling k.vars (if_rule (row_from n k r.now p) (row_from n k r.now q) (row_from n k r.now h)) }
+fn if_rule(m: &Record, p: u32, q: u32, h: u32) -> Result<(), Why>
+    ensures { ruling_in result ≡ ruling m.now.class.vars (if_rule (row_in m.now p) (row_in m.now q) (row_in m.now h)) }
 {
-    if !if_met(n, k, r, p, q, h) {
-        return Ruling {
-            met: false,
-            short: 0,
-        };
-    }
-    Ruling {
-        met: true,
-        short: then_short(
-            matching::popped_edge(n, k, r, 1, p, q),
-            matching::popped_edge(n, k, r, 1, p, h),
-        ),
-    }
+    asked(if_met(m, p, q, h))?;
+    matching::popped_edge(m, 1, p, q)?;
+    matching::popped_edge(m, 1, p, h)?;
+    Ok(())
 }
 
-fn exit_met(n: u8, k: Class, r: &[u8], v: u8, p: u32, q: u32) -> bool
-    ensures { result ≡ met (exit_rule v (row_from n k r.now p) (row_from n k r.now q)) }
+fn exit_met(m: &Record, v: u8, p: u32, q: u32) -> bool
+    ensures { result ≡ met (exit_rule v (row_in m.now p) (row_in m.now q)) }
 {
-    entries::is_reference(n, rows::variable_word(n, k, r, p, v))
-        & (matching::depth_of(k, r, p) == matching::depth_of(k, r, q))
+    entries::is_reference(m.classes, rows::variable_word(m, p, v))
+        & (matching::depth_of(m, p) == matching::depth_of(m, q))
 }
 
-fn exit_rule(n: u8, k: Class, r: &[u8], v: u8, p: u32, q: u32) -> Ruling
-    ensures { result ≡ ruling k.vars (exit_rule v (row_from n k r.now p) (row_from n k r.now q)) }
+fn exit_rule(m: &Record, v: u8, p: u32, q: u32) -> Result<(), Why>
+    ensures { ruling_in result ≡ ruling m.now.class.vars (exit_rule v (row_in m.now p) (row_in m.now q)) }
 {
-    if !exit_met(n, k, r, v, p, q) {
-        return Ruling {
-            met: false,
-            short: 0,
-        };
-    }
-    Ruling {
-        met: true,
-        short: matching::exited_edge(n, k, r, v, p, q),
-    }
+    asked(exit_met(m, v, p, q))?;
+    matching::exited_edge(m, v, p, q)?;
+    Ok(())
 }
 
 // What a throw asks besides the stack; `goes` is whether what is thrown may go.
-fn throw_met(n: u8, k: Class, r: &[u8], handler: u16, goes: bool, p: u32, h: u32) -> bool
-    ensures { result ≡ cond (eqb handler 0) (goes && vars_go k.vars (row_from n k r.now p)) (eqb 1 (row_from n k r.now h).depth) }
+fn throw_met(m: &Record, x: Catch, goes: bool, p: u32) -> bool
+    ensures { result ≡ cond (eqb x.handler.0 0) (goes && vars_go m.now.class.vars (row_in m.now p)) (eqb 1 (row_in m.now x.row).depth) }
 {
-    if handler == 0 {
-        return goes & matching::vars_go(n, k, r, p);
+    if x.handler.0 == 0 {
+        return goes & matching::vars_go(m, p);
     }
-    1 == matching::depth_of(k, r, h)
+    1 == matching::depth_of(m, x.row)
 }
 
 // The comparison of what is thrown with the handler's only entry gave t.
-fn thrown_short(n: u8, k: Class, r: &[u8], handler: u16, t: u8, p: u32, h: u32) -> u8
-    ensures { result ≡ cond (eqb handler 0) 0 (then_short (edge_short k.vars (edge (emptied (row_from n k r.now p)) (wants (row_from n k r.now h)))) t) }
+fn thrown_short(m: &Record, x: Catch, t: Result<(), Short>, p: u32) -> Result<(), Short>
+    ensures { short_in result ≡ cond (eqb x.handler.0 0) 0 (then_short (edge_short m.now.class.vars (edge (emptied (row_in m.now p)) (wants (row_in m.now x.row)))) (short_in t)) }
 {
-    if handler == 0 {
-        return 0;
+    if x.handler.0 == 0 {
+        return Ok(());
     }
-    then_short(matching::emptied_edge(n, k, r, p, h), t)
+    matching::emptied_edge(m, p, x.row)?;
+    t
 }
 
-// x is the exception class.
-fn throw_rule(n: u8, k: Class, r: &[u8], x: u8, handler: u16, p: u32, h: u32) -> Ruling
-    ensures { result ≡ ruling k.vars (throw_rule k.vars x handler (row_from n k r.now p) (row_from n k r.now h)) }
+fn throw_rule(m: &Record, x: Catch, p: u32) -> Result<(), Why>
+    ensures { ruling_in result ≡ ruling m.now.class.vars (throw_rule m.now.class.vars x.exception x.handler.0 (row_in m.now p) (row_in m.now x.row)) }
 {
-    let top = rows::stack_word(n, k, r, p, 0);
-    let t = matching::word_short(n, top, rows::stack_word(n, k, r, h, 0));
-    judged(
-        (1 <= matching::depth_of(k, r, p))
-            & entries::is_of(n, x, top)
-            & matching::rest_goes(n, k, r, p)
-            & throw_met(n, k, r, handler, entries::may_go(n, top), p, h),
-        thrown_short(n, k, r, handler, t, p, h),
-    )
+    let top = rows::stack_word(m, p, 0);
+    asked(
+        (1 <= matching::depth_of(m, p))
+            & entries::is_of(m.classes, x.exception, top)
+            & matching::rest_goes(m, p)
+            & throw_met(m, x, entries::may_go(m.classes, top), p),
+    )?;
+    let t = matching::word_short(m.classes, top, rows::stack_word(m, x.row, 0));
+    thrown_short(m, x, t, p)?;
+    Ok(())
 }
 
-// A failed new: what it asks of row p and of the handler's. It throws the exception class x with (0,0), which may go.
-fn failure_met(n: u8, k: Class, r: &[u8], x: u8, handler: u16, p: u32, h: u32) -> bool
-    ensures { result ≡ (failure_goes k.vars x handler (row_from n k r.now p) && all_meet (failure_thrown x handler (row_from n k r.now p) (row_from n k r.now h))) }
+// A failed new: what it asks of row p and of the handler's. It throws the exception class with (0,0), which may go.
+fn failure_met(m: &Record, x: Catch, p: u32) -> bool
+    ensures { result ≡ (failure_goes m.now.class.vars x.exception x.handler.0 (row_in m.now p) && all_meet (failure_thrown x.exception x.handler.0 (row_in m.now p) (row_in m.now x.row))) }
 {
-    matching::stack_goes(n, k, r, p) & throw_met(n, k, r, handler, true, p, h)
+    matching::stack_goes(m, p) & throw_met(m, x, true, p)
 }
 
 // .. and its comparisons with the handler's row.
-fn failure_short(n: u8, k: Class, r: &[u8], x: u8, handler: u16, p: u32, h: u32) -> u8
-    ensures { result ≡ short_along k.vars (failure_thrown x handler (row_from n k r.now p) (row_from n k r.now h)) }
+fn failure_short(m: &Record, x: Catch, p: u32) -> Result<(), Short>
+    ensures { short_in result ≡ short_along m.now.class.vars (failure_thrown x.exception x.handler.0 (row_in m.now p) (row_in m.now x.row)) }
 {
-    let t = entries::compare_made(n, x, rows::stack_word(n, k, r, h, 0));
-    thrown_short(n, k, r, handler, t, p, h)
+    let t = entries::compare_made(m.classes, x.exception, rows::stack_word(m, x.row, 0));
+    thrown_short(m, x, t, p)
 }
 
-fn new_rule(n: u8, k: Class, r: &[u8], x: u8, c: u8, handler: u16, p: u32, q: u32, h: u32) -> Ruling
-    ensures { result ≡ ruling k.vars (new_rule k.vars x c handler (row_from n k r.now p) (row_from n k r.now q) (row_from n k r.now h)) }
+fn new_rule(m: &Record, x: Catch, c: u8, p: u32, q: u32) -> Result<(), Why>
+    ensures { ruling_in result ≡ ruling m.now.class.vars (new_rule m.now.class.vars x.exception c x.handler.0 (row_in m.now p) (row_in m.now q) (row_in m.now x.row)) }
 {
-    judged(
-        failure_met(n, k, r, x, handler, p, h)
-            & (matching::depth_of(k, r, p) + 1 == matching::depth_of(k, r, q)),
-        then_short(
-            matching::made_edge(n, k, r, c, p, q),
-            failure_short(n, k, r, x, handler, p, h),
-        ),
-    )
+    asked(failure_met(m, x, p) & (matching::depth_of(m, p) + 1 == matching::depth_of(m, q)))?;
+    matching::made_edge(m, c, p, q)?;
+    failure_short(m, x, p)?;
+    Ok(())
 }
 
 // A reference that can't be null throws nothing, and then no throw is looked at.
-fn enter_rule(
-    n: u8,
-    k: Class,
-    r: &[u8],
-    x: u8,
-    v: u8,
-    handler: u16,
-    p: u32,
-    q: u32,
-    h: u32,
-) -> Ruling
-    ensures { result ≡ ruling k.vars (enter_rule k.vars x v handler (row_from n k r.now p) (row_from n k r.now q) (row_from n k r.now h)) }
+fn enter_rule(m: &Record, x: Catch, v: u8, p: u32, q: u32) -> Result<(), Why>
+    ensures { ruling_in result ≡ ruling m.now.class.vars (enter_rule m.now.class.vars x.exception v x.handler.0 (row_in m.now p) (row_in m.now q) (row_in m.now x.row)) }
 {
-    let w = rows::variable_word(n, k, r, p, v);
-    let level = matching::depth_of(k, r, p) == matching::depth_of(k, r, q);
-    if entries::is_reference(n, w) {
-        return judged(level, matching::entered_edge(n, k, r, v, p, q));
+    let w = rows::variable_word(m, p, v);
+    let level = matching::depth_of(m, p) == matching::depth_of(m, q);
+    if entries::is_reference(m.classes, w) {
+        asked(level)?;
+        matching::entered_edge(m, v, p, q)?;
+        return Ok(());
     }
-    judged(
-        entries::is_nullable(n, w) & failure_met(n, k, r, x, handler, p, h) & level,
-        then_short(
-            matching::made_entered_edge(n, k, r, entries::class_of(n, w), v, p, q),
-            failure_short(n, k, r, x, handler, p, h),
-        ),
-    )
+    asked(entries::is_nullable(m.classes, w) & failure_met(m, x, p) & level)?;
+    matching::made_entered_edge(m, entries::class_of(m.classes, w), v, p, q)?;
+    failure_short(m, x, p)?;
+    Ok(())
 }
 
 // What null asks, where w, the owner of a field, may be null.
-fn null_met(n: u8, k: Class, r: &[u8], x: u8, handler: u16, w: u32, p: u32, h: u32) -> bool
-    ensures { result ≡ (null_goes k.vars x handler (entry_from n w) (row_from n k r.now p) && all_meet (null_thrown x handler (entry_from n w) (row_from n k r.now p) (row_from n k r.now h))) }
+fn null_met(m: &Record, x: Catch, w: u32, p: u32) -> bool
+    ensures { result ≡ (null_goes m.now.class.vars x.exception x.handler.0 (entry_from m.now.classes w) (row_in m.now p) && all_meet (null_thrown x.exception x.handler.0 (entry_from m.now.classes w) (row_in m.now p) (row_in m.now x.row))) }
 {
-    if !entries::is_nullable(n, w) {
+    if !entries::is_nullable(m.classes, w) {
         return true;
     }
-    failure_met(n, k, r, x, handler, p, h)
+    failure_met(m, x, p)
 }
 
-fn null_short(n: u8, k: Class, r: &[u8], x: u8, handler: u16, w: u32, p: u32, h: u32) -> u8
-    ensures { result ≡ short_along k.vars (null_thrown x handler (entry_from n w) (row_from n k r.now p) (row_from n k r.now h)) }
+fn null_short(m: &Record, x: Catch, w: u32, p: u32) -> Result<(), Short>
+    ensures { short_in result ≡ short_along m.now.class.vars (null_thrown x.exception x.handler.0 (entry_from m.now.classes w) (row_in m.now p) (row_in m.now x.row)) }
 {
-    if !entries::is_nullable(n, w) {
-        return 0;
+    if !entries::is_nullable(m.classes, w) {
+        return Ok(());
     }
-    failure_short(n, k, r, x, handler, p, h)
+    failure_short(m, x, p)
 }
 
 fn owner_goes(n: u8, c: u8, w: u32) -> bool
@@ -318,194 +243,146 @@ fn owner_goes(n: u8, c: u8, w: u32) -> bool
 }
 
 // c is the owner's class, d the field's descriptor.
-fn get_rule(
-    n: u8,
-    k: Class,
-    r: &[u8],
-    x: u8,
-    c: u8,
-    d: u8,
-    handler: u16,
-    p: u32,
-    q: u32,
-    h: u32,
-) -> Ruling
-    ensures { result ≡ ruling k.vars (get_rule k.vars x c d handler (row_from n k r.now p) (row_from n k r.now q) (row_from n k r.now h)) }
+fn get_rule(m: &Record, x: Catch, c: u8, d: u8, p: u32, q: u32) -> Result<(), Why>
+    ensures { ruling_in result ≡ ruling m.now.class.vars (get_rule m.now.class.vars x.exception c d x.handler.0 (row_in m.now p) (row_in m.now q) (row_in m.now x.row)) }
 {
-    let owner = rows::stack_word(n, k, r, p, 0);
-    judged(
-        (1 <= matching::depth_of(k, r, p))
-            & owner_goes(n, c, owner)
-            & null_met(n, k, r, x, handler, owner, p, h)
-            & (matching::depth_left(k, r, 1, p) + 1 == matching::depth_of(k, r, q)),
-        then_short(
-            matching::field_edge(n, k, r, d, p, q),
-            null_short(n, k, r, x, handler, owner, p, h),
-        ),
-    )
+    let owner = rows::stack_word(m, p, 0);
+    asked(
+        (1 <= matching::depth_of(m, p))
+            & owner_goes(m.classes, c, owner)
+            & null_met(m, x, owner, p)
+            & (matching::depth_left(m, 1, p) + 1 == matching::depth_of(m, q)),
+    )?;
+    matching::field_edge(m, d, p, q)?;
+    null_short(m, x, owner, p)?;
+    Ok(())
 }
 
-fn put_rule(
-    n: u8,
-    k: Class,
-    r: &[u8],
-    x: u8,
-    c: u8,
-    d: u8,
-    handler: u16,
-    p: u32,
-    q: u32,
-    h: u32,
-) -> Ruling
-    ensures { result ≡ ruling k.vars (put_rule k.vars x c d handler (row_from n k r.now p) (row_from n k r.now q) (row_from n k r.now h)) }
+fn put_rule(m: &Record, x: Catch, c: u8, d: u8, p: u32, q: u32) -> Result<(), Why>
+    ensures { ruling_in result ≡ ruling m.now.class.vars (put_rule m.now.class.vars x.exception c d x.handler.0 (row_in m.now p) (row_in m.now q) (row_in m.now x.row)) }
 {
-    let value = rows::stack_word(n, k, r, p, 0);
-    let owner = rows::stack_word(n, k, r, p, 1);
-    judged(
-        (2 <= matching::depth_of(k, r, p))
-            & (entries::matches_field(n, d, value) & entries::may_go(n, value))
-            & owner_goes(n, c, owner)
-            & null_met(n, k, r, x, handler, owner, p, h)
-            & (matching::depth_left(k, r, 2, p) == matching::depth_of(k, r, q)),
-        then_short(
-            matching::popped_edge(n, k, r, 2, p, q),
-            null_short(n, k, r, x, handler, owner, p, h),
-        ),
-    )
+    let value = rows::stack_word(m, p, 0);
+    let owner = rows::stack_word(m, p, 1);
+    asked(
+        (2 <= matching::depth_of(m, p))
+            & (entries::matches_field(m.classes, d, value) & entries::may_go(m.classes, value))
+            & owner_goes(m.classes, c, owner)
+            & null_met(m, x, owner, p)
+            & (matching::depth_left(m, 2, p) == matching::depth_of(m, q)),
+    )?;
+    matching::popped_edge(m, 2, p, q)?;
+    null_short(m, x, owner, p)?;
+    Ok(())
 }
 
 // s is the record of the class that is started: its descriptors come first.
-fn argument_goes(n: u8, k: Class, r: &[u8], s: &[u8], p: u32, j: u8) -> bool
-    ensures { result ≡ argument_goes (at s.now) (row_from n k r.now p) j }
+fn argument_goes(m: &Record, s: &[u8], p: u32, j: u8) -> bool
+    ensures { result ≡ argument_goes (at s.now) (row_in m.now p) j }
 {
-    let w = rows::stack_word(n, k, r, p, j);
-    if !entries::matches(n, ground::byte(s, j as usize), w) {
+    let w = rows::stack_word(m, p, j);
+    if !entries::matches(m.classes, ground::byte(s, j as usize), w) {
         return false;
     }
-    entries::may_go(n, w)
+    entries::may_go(m.classes, w)
 }
 
-fn arguments_go(n: u8, k: Class, r: &[u8], s: &[u8], args: u8, p: u32) -> bool
-    ensures { result ≡ arguments_go args (at s.now) (row_from n k r.now p) }
+fn arguments_go(m: &Record, s: &[u8], args: u8, p: u32) -> bool
+    ensures { result ≡ arguments_go args (at s.now) (row_in m.now p) }
 {
     for j in 0..args {
-        if !argument_goes(n, k, r, s, p, j) {
+        if !argument_goes(m, s, p, j) {
             return false;
         }
     }
     true
 }
 
-fn object_goes(n: u8, k: Class, r: &[u8], c: u8, p: u32, j: u8) -> bool
-    ensures { result ≡ object_goes c (row_from n k r.now p) j }
+fn object_goes(m: &Record, c: u8, p: u32, j: u8) -> bool
+    ensures { result ≡ object_goes c (row_in m.now p) j }
 {
-    let w = rows::stack_word(n, k, r, p, j);
-    if !entries::is_of(n, c, w) {
+    let w = rows::stack_word(m, p, j);
+    if !entries::is_of(m.classes, c, w) {
         return false;
     }
-    entries::may_go(n, w)
+    entries::may_go(m.classes, w)
 }
 
-// A depth is a byte, so no stack holds 256 entries.
-fn start_rule(n: u8, k: Class, r: &[u8], s: &[u8], args: u8, c: u8, p: u32, q: u32) -> Ruling
-    ensures { result ≡ ruling k.vars (start_rule args (at s.now) c (row_from n k r.now p) (row_from n k r.now q)) }
+// A depth is a byte, so that args + 1 is one, too, where a stack holds so many.
+fn start_rule(m: &Record, s: &[u8], args: u8, c: u8, p: u32, q: u32) -> Result<(), Why>
+    ensures { ruling_in result ≡ ruling m.now.class.vars (start_rule args (at s.now) c (row_in m.now p) (row_in m.now q)) }
 {
-    if args == 255 {
-        return Ruling {
-            met: false,
-            short: 0,
-        };
+    if matching::depth_of(m, p) <= args as u16 {
+        return Err(Why::Unmet);
     }
-    judged(
-        (args as u16 + 1 <= matching::depth_of(k, r, p))
-            & arguments_go(n, k, r, s, args, p)
-            & object_goes(n, k, r, c, p, args)
-            & (matching::depth_left(k, r, args + 1, p) == matching::depth_of(k, r, q)),
-        matching::popped_edge(n, k, r, args + 1, p, q),
-    )
+    asked(
+        arguments_go(m, s, args, p)
+            & object_goes(m, c, p, args)
+            & (matching::depth_left(m, args + 1, p) == matching::depth_of(m, q)),
+    )?;
+    matching::popped_edge(m, args + 1, p, q)?;
+    Ok(())
 }
 
-fn return_rule(n: u8, k: Class, r: &[u8], p: u32) -> Ruling
-    ensures { result ≡ ruling k.vars (return_rule k.vars (row_from n k r.now p)) }
+fn return_rule(m: &Record, p: u32) -> Result<(), Why>
+    ensures { ruling_in result ≡ ruling m.now.class.vars (return_rule m.now.class.vars (row_in m.now p)) }
 {
-    judged(
-        matching::stack_goes(n, k, r, p) & matching::vars_go(n, k, r, p),
-        0,
-    )
+    asked(matching::stack_goes(m, p) & matching::vars_go(m, p))
 }
 
-fn start_of(b: &[u8], n: u8, k: Class, r: &[u8], c: u8, p: u32, q: u32) -> Ruling
-    ensures { result ≡ ruling k.vars (start_rule ((program_of b.now).method c).args ((program_of b.now).method c).descriptor c (row_from n k r.now p) (row_from n k r.now q)) }
+fn start_of(b: &[u8], m: &Record, c: u8, p: u32, q: u32) -> Result<(), Why>
+    ensures { ruling_in result ≡ ruling m.now.class.vars (start_rule ((program_of b.now).method c).args ((program_of b.now).method c).descriptor c (row_in m.now p) (row_in m.now q)) }
 {
-    let started = bundle::class_at(b, c);
-    start_rule(n, k, r, bundle::part_of(b, started), started.args, c, p, q)
+    let started = bundle::record_at(b, c);
+    start_rule(m, started.bytes, started.class.args, c, p, q)
 }
 
 // The descriptor of field f of class c.
 fn descriptor_of(b: &[u8], c: u8, f: u8) -> u8
     ensures { result ≡ ((program_of b.now).method c).field f }
 {
-    let owner = bundle::class_at(b, c);
-    bundle::field_at(owner, bundle::part_of(b, owner), f)
+    bundle::record_at(b, c).field_at(f)
 }
 
-// The ruling of the instruction x at address l of the method whose record is r. The bundle is asked only for the class that a start or a field instruction names, and for the exception class.
-// The opcode is looked at once.
-pub fn rule_of(b: &[u8], n: u8, k: Class, r: &[u8], l: Addr, x: Code) -> Ruling
-    ensures { result ≡ ruling k.vars (rule_of (program_of b.now) k.vars (row_at n k r.now) l.0 (decoded x)) }
+fn catch_of(b: &[u8], m: &Record, h: Addr) -> Catch
+    ensures exception { result.exception ≡ exception b.now }
+    ensures handler { result.handler ≡ h }
+    ensures row { result.row ≡ row_start m.now.class h.0 }
 {
-    let p = rows::row_start(k, l);
-    let q = rows::next_start(k, l);
-    let h = rows::row_start(k, Addr(x.address));
-    let operand = x.operand;
-    let address = x.address;
-    let opcode = x.opcode;
-    match opcode {
-        1 => inc_rule(n, k, r, p, q),
-        2 => pop_rule(n, k, r, p, q),
-        3 => push0_rule(n, k, r, p, q),
-        4 => load_rule(n, k, r, operand, p, q),
-        5 => store_rule(n, k, r, operand, p, q),
-        6 => if_rule(n, k, r, p, q, h),
-        7 => enter_rule(n, k, r, bundle::exception(b), operand, address, p, q, h),
-        8 => exit_rule(n, k, r, operand, p, q),
-        9 => new_rule(n, k, r, bundle::exception(b), operand, address, p, q, h),
-        10 => start_of(b, n, k, r, operand, p, q),
-        11 => throw_rule(n, k, r, bundle::exception(b), address, p, h),
-        12 => return_rule(n, k, r, p),
-        13 => {
-            let d = descriptor_of(b, operand / 4, operand % 4);
-            get_rule(
-                n,
-                k,
-                r,
-                bundle::exception(b),
-                operand / 4,
-                d,
-                address,
-                p,
-                q,
-                h,
-            )
+    Catch {
+        exception: bundle::exception(b),
+        handler: h,
+        row: rows::row_start(m.class, h),
+    }
+}
+
+// The ruling of the instruction x at address l of the method whose record is m. The bundle is asked only for the class that a start or a field instruction names, and for the exception class.
+#[tactic(auto, unfolding(bundle::specs::Program::program_of, ground::specs::Chain::refuse, crate::specs::Rule::ruling, crate::specs::Rule::met))]
+pub fn rule_of(b: &[u8], m: &Record, l: Addr, x: Code) -> Result<(), Why>
+    ensures { ruling_in result ≡ ruling m.now.class.vars (rule_of (program_of b.now) m.now.class.vars (row_of m.now) l.0 (decoded x)) }
+{
+    let p = rows::row_start(m.class, l);
+    let q = rows::next_start(m.class, l);
+    match instructions::instruction_of(x) {
+        Instruction::Inc => inc_rule(m, p, q),
+        Instruction::Pop => pop_rule(m, p, q),
+        Instruction::Push0 => push0_rule(m, p, q),
+        Instruction::Load(v) => load_rule(m, v.0, p, q),
+        Instruction::Store(v) => store_rule(m, v.0, p, q),
+        Instruction::If(a) => if_rule(m, p, q, rows::row_start(m.class, a)),
+        Instruction::Enter(v, h) => enter_rule(m, catch_of(b, m, h), v.0, p, q),
+        Instruction::Exit(v) => exit_rule(m, v.0, p, q),
+        Instruction::New(c, h) => new_rule(m, catch_of(b, m, h), c, p, q),
+        Instruction::Start(c) => start_of(b, m, c, p, q),
+        Instruction::Throw(h) => throw_rule(m, catch_of(b, m, h), p),
+        Instruction::Return => return_rule(m, p),
+        Instruction::Get(c, f, h) => {
+            let d = descriptor_of(b, c, f);
+            get_rule(m, catch_of(b, m, h), c, d, p, q)
         }
-        14 => {
-            let d = descriptor_of(b, operand / 4, operand % 4);
-            put_rule(
-                n,
-                k,
-                r,
-                bundle::exception(b),
-                operand / 4,
-                d,
-                address,
-                p,
-                q,
-                h,
-            )
+        Instruction::Put(c, f, h) => {
+            let d = descriptor_of(b, c, f);
+            put_rule(m, catch_of(b, m, h), c, d, p, q)
         }
-        _ => Ruling {
-            met: false,
-            short: 0,
-        },
+        Instruction::Nothing => Err(Why::Unmet),
     }
 }

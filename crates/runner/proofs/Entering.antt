@@ -1,11 +1,10 @@
 -- monitorenter and monitorexit: what is known there, and that what their functions write is document 01's step.
-use mathlib.Core.List.{List, []}
+use mathlib.Core.List.{List}
 use mathlib.Core.Path.{◌≡◌, refl, sym, ap, subst, ◌∙◌}
 use mathlib.Core.Bool.{Bool, true, false, cond, not}
 use Prim.Native.Nat.{ℕ, ◌+◌, ◌*◌, ◌<◌, ◌≤◌}
 use lib.Dec.{ltb, leb, eqb}
 use lib.ListN.{set}
-use lib.Seq.{set-get_or}
 use native.Mathlib.Omega.{arith}
 use borrow.Author.Tests.{ltb-true, not-true}
 use Rattle.ground.specs.Bytes.{at}
@@ -22,7 +21,7 @@ use Rattle.values.specs.declared.Value.{Value}
 use Rattle.values.specs.declared.Value.TheVariants.{Int as num, Ref as ref, Null as null}
 use Rattle.values.specs.Values.{is_int, is_null, is_ref, is_int_value, is_null_value, is_ref_value, object_of}
 use Rattle.threads.specs.declared.Thread.{Thread}
-use Rattle.threads.specs.Threads.{var_of, with_at}
+use Rattle.threads.specs.Threads.{var_of}
 use Rattle.state.specs.State.{count_of, others_free}
 use Rattle.belongs.proofs.Belongs.{refers-object}
 use Rattle.turns.specs.Answers.{test}
@@ -30,17 +29,19 @@ use Rattle.turns.specs.Faults.{lock_of}
 use Rattle.turns.specs.Waits.{wait_of}
 use Rattle.turns.specs.Moves.{counted, throw_move, fail_move, move_of}
 use Rattle.memory.specs.Words.{slot_of, object_in}
-use Rattle.memory.specs.Frames.{address_in, thread_in, var_in, went_in, thrown_in}
+use Rattle.memory.specs.Frames.{thread_in, var_in, went_in, thrown_in}
 use Rattle.memory.proofs.Meaning.{word-object, ref-object, null-high}
 use Rattle.memory.proofs.Writes.{var-read}
-use Rattle.memory.proofs.Frames.{Is, went-is}
-use Rattle.runner.specs.Memory.{Memory, memory, frame_of, state_from}
-use Rattle.runner.specs.Locks.{Locked, locked, held_by_other, counted_in, entered_in, left_in}
+use Rattle.memory.proofs.Frames.{went-is}
+use Rattle.runner.specs.declared.table.Row.{Row}
+use Rattle.runner.specs.declared.running.Memory.{Memory}
+use Rattle.runner.specs.Memory.{frame_of, framed, state_from, Acted, acted}
+use Rattle.runner.specs.Locks.{held_by_other, counted_in, entered_in, left_in}
 use Rattle.runner.specs.Poised.{Poised, Turned}
 use Rattle.runner.proofs.Stores.{threads-set, sized_set}
 use Rattle.runner.proofs.Others.{held-by-other}
-use Rattle.runner.proofs.Known.{test-holds, test-rest, F, M, X, few-vars, address-256, frame_36, placed-here}
-use Rattle.runner.proofs.Steps.{framed, quiet, listed, goes, waits, threw}
+use Rattle.runner.proofs.Known.{test-holds, test-rest, F, M, X, few-vars, frame_16, placed-here}
+use Rattle.runner.proofs.Steps.{quiet, listed, goes, waits, threw}
 
 -- the thread, and the word in its variable v
 abbrev pub Here : Memory → ℕ → Thread
@@ -62,7 +63,7 @@ pub either : {A : Type 0} (Q : A → Type 0) (t : Bool) (x y : A) → (t ≡ tru
 either Q true x y f g = f refl
 either Q false x y f g = g refl
 
-module _ (b : List ℕ) (table : List (List ℕ)) (m : Memory) (i : ℕ) (z : Poised b table m i) (fails : Bool) (v : Var) (lv : v.0 < (M b table m i z).vars) where
+module _ (b : List ℕ) (table : List Row) (m : Memory) (i : ℕ) (z : Poised b table m i) (fails : Bool) (v : Var) (lv : v.0 < (M b table m i z).vars) where
   value-is : var_of (Here m i) v.0 ≡ slot_of (Word m i v)
   value-is = var-read (F b table m i z) v.0 (omega (arith, few-vars b table m i z))
 
@@ -84,16 +85,13 @@ module _ (b : List ℕ) (table : List (List ℕ)) (m : Memory) (i : ℕ) (z : Po
         (λ j l n k. z.running.inv.whole.one_holder i j (object_in (Word m i v)) z.thread_8 l object-32 (λ q. n (sym q)) k)
 
     -- the count becomes n
-    counted-turned : (x : Instruction) → X b table m i z ≡ x → wait_of (state_from m) i (Here m i) x ≡ 0 → (n to : ℕ) → to ≡ address_in (F b table m i z) + 1
+    counted-turned : (x : Instruction) → X b table m i z ≡ x → wait_of (state_from m) i (Here m i) x ≡ 0 → (n : ℕ)
         → move_of (program_of b) (state_from m) i (Here m i) (M b table m i z) fails x ≡ counted (state_from m) i (Here m i) (object_in (Word m i v)) n
-        → Turned b m
-        (memory (set m.frames i (went_in (F b table m i z) to)) (set m.counts (i * 32 + object_in (Word m i v)) n) (set m.held i (marked (at m.held i) (object_in (Word m i v)) n)) m.objects m.classes m.fields)
-        0 i fails
-    counted-turned x q w n to t e =
-        let h : Is (went_in (F b table m i z) to) (with_at (Here m i) (address_in (F b table m i z) + 1)) =
-        rw t (went-is (F b table m i z) (Here m i) (address_in (F b table m i z) + 1) (record { sized = frame_36 b table m i z; thread = refl }) (omega (arith, address-256 b table m i z))) in
+        → Turned b m (counted_in m i (object_in (Word m i v)) n ((F b table m i z).at + 1)) 0 i fails
+    counted-turned x q w n e =
+        let h = went-is (F b table m i z) (Here m i) ((F b table m i z).at + 1) (record { sized = frame_16 b table m i z; thread = refl }) in
         goes b table m i z fails x q w _ 0
-        (sized_set m.frames i (went_in (F b table m i z) to) z.running.sized.frames_8 z.thread_8 m.fields z.running.sized h.sized)
+        (sized_set m.frames i (went_in (F b table m i z) ((F b table m i z).at + 1)) z.running.sized.frames_8 z.thread_8 m.fields z.running.sized h.sized)
         (e
         ∙ ap (λ (ts : List Thread). record {
           answer = 0;
@@ -106,10 +104,10 @@ module _ (b : List ℕ) (table : List (List ℕ)) (m : Memory) (i : ℕ) (z : Po
             held = set m.held i (marked (at m.held i) (object_in (Word m i v)) n);
           };
         })
-        (sym (threads-set m.frames i (went_in (F b table m i z) to) z.running.sized.frames_8 z.thread_8 _ h.thread)))
+        (sym (threads-set m.frames i (went_in (F b table m i z) ((F b table m i z).at + 1)) z.running.sized.frames_8 z.thread_8 _ h.thread)))
 
 -- ---- monitorenter
-module _ (b : List ℕ) (table : List (List ℕ)) (m : Memory) (i : ℕ) (z : Poised b table m i) (fails : Bool) (v : Var) (h : Addr) (q : X b table m i z ≡ Enter v h) where
+module _ (b : List ℕ) (table : List Row) (m : Memory) (i : ℕ) (z : Poised b table m i) (fails : Bool) (v : Var) (h : Addr) (q : X b table m i z ≡ Enter v h) where
   enter-var : v.0 < (M b table m i z).vars
   enter-var = (listed b table m i z fails (Enter v h) q).0
 
@@ -137,22 +135,21 @@ module _ (b : List ℕ) (table : List (List ℕ)) (m : Memory) (i : ℕ) (z : Po
       → (object_in (var_in (F b table m i z) v.0) < 32) × (at m.counts (i * 32 + object_in (var_in (F b table m i z) v.0)) < 65535))
   enter-known = (z.thread_8, λ e. enter-bounds (not_null e))
 
-  pub enter-turned : (r : ℕ) (p' k' g' : List ℕ) (vars to : ℕ) → vars ≡ (M b table m i z).vars → to ≡ address_in (F b table m i z) + 1
-      → locked r p' k' g' ≡ entered_in (F b table m i z) m.counts m.held i vars v.0 h.0 to
-      → Turned b m (memory (set m.frames i p') k' g' m.objects m.classes m.fields) r i fails
+  pub enter-turned : (r : ℕ) (m' : Memory)
+      → acted r m' ≡ entered_in m i (M b table m i z).vars v.0 h.0 ((F b table m i z).at + 1) → Turned b m m' r i fails
   unfolding entered_in refuse
-  enter-turned r p' k' g' vars to ev t e =
+  enter-turned r m' e =
       subst Q (sym e)
       (either Q (leb 4294967552 (Word m i v)) _ _ null-throws
       (λ f. either Q (held_by_other m.held i (object_in (Word m i v))) _ _ (other f) (free f)))
     where
-      Q : Locked → Type 0
-      Q x = Turned b m (memory (set m.frames i x.frame) x.counts x.held m.objects m.classes m.fields) x.answer i fails
+      Q : Acted → Type 0
+      Q x = Turned b m x.after x.answer i fails
 
-      null-throws : leb 4294967552 (Word m i v) ≡ true → Turned b m (framed m i (thrown_in (F b table m i z) vars h.0 4294967296)) (cond (eqb h.0 0) 2 0) i fails
+      null-throws : leb 4294967552 (Word m i v) ≡ true → Turned b m (framed m i (thrown_in (F b table m i z) (M b table m i z).vars h.0 4294967296)) (cond (eqb h.0 0) 2 0) i fails
       null-throws f =
           let n : is_null (var_of (Here m i) v.0) ≡ true = null_is b table m i z fails v enter-var ∙ f in
-          threw b table m i z fails (Enter v h) q (rw n) h 4294967296 (listed b table m i z fails (Enter v h) q).1 (thrown n) _ _ vars ev refl refl
+          threw b table m i z fails (Enter v h) q (rw n) h 4294967296 (listed b table m i z fails (Enter v h) q).1 (thrown n)
         where
           thrown : is_null (var_of (Here m i) v.0) ≡ true
               → cond (is_null (var_of (Here m i) v.0)) (fail_move (state_from m) i (Here m i) (M b table m i z).vars h) (counted (state_from m) i (Here m i) (lock_of (Here m i) v) (count_of m.counts i (lock_of (Here m i) v) + 1))
@@ -172,20 +169,18 @@ module _ (b : List ℕ) (table : List (List ℕ)) (m : Memory) (i : ℕ) (z : Po
       wait-is : (f : leb 4294967552 (Word m i v) ≡ false) (y : Bool) → others_free m.counts i (lock_of (Here m i) v) ≡ y → wait_of (state_from m) i (Here m i) (Enter v h) ≡ test y 3 0
       wait-is f y g = rw (not_null f, g)
 
-      other : leb 4294967552 (Word m i v) ≡ false → held_by_other m.held i (object_in (Word m i v)) ≡ true → Q (locked 3 (F b table m i z) m.counts m.held)
-      other f g =
-          subst (λ (fs : List (List ℕ)). Turned b m (memory fs m.counts m.held m.objects m.classes m.fields) 3 i fails) (sym (set-get_or m.frames i []))
-          (waits b table m i z fails (Enter v h) q 3 (wait-is f false (free-is f true g)) (omega arith))
+      other : leb 4294967552 (Word m i v) ≡ false → held_by_other m.held i (object_in (Word m i v)) ≡ true → Q (acted 3 m)
+      other f g = waits b table m i z fails (Enter v h) q 3 (wait-is f false (free-is f true g)) (omega arith)
 
       free : leb 4294967552 (Word m i v) ≡ false → held_by_other m.held i (object_in (Word m i v)) ≡ false
-          → Q (counted_in (F b table m i z) m.counts m.held i (object_in (Word m i v)) (at m.counts (i * 32 + object_in (Word m i v)) + 1) to)
+          → Q (acted 0 (counted_in m i (object_in (Word m i v)) (at m.counts (i * 32 + object_in (Word m i v)) + 1) ((F b table m i z).at + 1)))
       free f g =
           let r = enter-lock (not_null f) in
-          counted-turned b table m i z fails v enter-var r (Enter v h) q (wait-is f true (free-is f false g)) (at m.counts (i * 32 + object_in (Word m i v)) + 1) to t
+          counted-turned b table m i z fails v enter-var r (Enter v h) q (wait-is f true (free-is f false g)) (at m.counts (i * 32 + object_in (Word m i v)) + 1)
           (rw (not_null f, ← object-is b table m i z fails v enter-var r))
 
 -- ---- monitorexit
-module _ (b : List ℕ) (table : List (List ℕ)) (m : Memory) (i : ℕ) (z : Poised b table m i) (fails : Bool) (v : Var) (q : X b table m i z ≡ Exit v) where
+module _ (b : List ℕ) (table : List Row) (m : Memory) (i : ℕ) (z : Poised b table m i) (fails : Bool) (v : Var) (q : X b table m i z ≡ Exit v) where
   exit-var : v.0 < (M b table m i z).vars
   exit-var = (listed b table m i z fails (Exit v) q).0
 
@@ -200,12 +195,8 @@ module _ (b : List ℕ) (table : List (List ℕ)) (m : Memory) (i : ℕ) (z : Po
   pub exit-known : (i < 8) × (object_in (var_in (F b table m i z) v.0) < 32) × (1 ≤ at m.counts (i * 32 + object_in (var_in (F b table m i z) v.0)))
   exit-known = (z.thread_8, object-32 b table m i z fails v exit-var exit-lock, let k = holds in let e = object-is b table m i z fails v exit-var exit-lock in rw e (omega (arith, k)))
 
-  pub exit-turned : (p' k' g' : List ℕ) (to : ℕ) → to ≡ address_in (F b table m i z) + 1
-      → locked 0 p' k' g' ≡ left_in (F b table m i z) m.counts m.held i v.0 to
-      → Turned b m (memory (set m.frames i p') k' g' m.objects m.classes m.fields) 0 i fails
+  pub exit-turned : (m' : Memory) → m' ≡ left_in m i v.0 ((F b table m i z).at + 1) → Turned b m m' 0 i fails
   unfolding left_in
-  exit-turned p' k' g' to t e =
-      subst Q (sym e) (counted-turned b table m i z fails v exit-var exit-lock (Exit v) q refl _ to t (rw (← object-is b table m i z fails v exit-var exit-lock)))
-    where
-      Q : Locked → Type 0
-      Q x = Turned b m (memory (set m.frames i x.frame) x.counts x.held m.objects m.classes m.fields) x.answer i fails
+  exit-turned m' e =
+      subst (λ (x : Memory). Turned b m x 0 i fails) (sym e)
+      (counted-turned b table m i z fails v exit-var exit-lock (Exit v) q refl _ (rw (← object-is b table m i z fails v exit-var exit-lock)))

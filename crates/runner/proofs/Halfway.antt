@@ -1,7 +1,6 @@
 -- The loop over a schedule: what is still to come, from where it stands, gives what the whole list gives.
 use mathlib.Core.List.{List, [], ◌∷◌}
 use mathlib.Core.Path.{◌≡◌, refl, sym, ap, subst, ◌∙◌}
-use mathlib.Core.Logic.{◌≢◌}
 use mathlib.Core.Bool.{Bool, true, false, cond}
 use Prim.Native.Nat.{ℕ, ◌+◌, ◌%◌, ◌<◌, ◌≤◌}
 use lib.Dec.{leb}
@@ -9,15 +8,18 @@ use lib.ListN.{length, get_or, drop, set, replicate, get_or-replicate}
 use lib.Seq.{drop-cons, drop-length}
 use native.Mathlib.Numerals.{add-one}
 use native.Mathlib.Omega.{arith}
-use borrow.Author.Tests.{le-leb, lt-leb, eq-eqb, ne_eqb}
+use borrow.Author.Tests.{eq-eqb, ne_eqb}
 use Rattle.ground.specs.Bytes.{at}
 use Rattle.ground.specs.Chain.{refuse}
-use Rattle.ground.specs.Bounded.{set_below}
 use Rattle.ground.proofs.Chain.{went_on_lem}
 use Rattle.ground.proofs.Chain.{refused as stopped}
 use Rattle.bundle.specs.Container.{exception}
 use Rattle.bundle.specs.Program.{method_at, program_of}
-use Rattle.structure.specs.declared.Verdict.{Verdict}
+use Rattle.verdicts.specs.declared.Verdict.{Verdict}
+use Rattle.verdicts.specs.declared.Refusal.{Refusal}
+use Rattle.verdicts.specs.declared.Refusal.TheVariants.{Length, Trailer, Directory, Limits, Extent, Descriptors, Instruction, Form, Rule, FirstRow, NoPairs, Overlap, Room, Order, Levels, Given}
+use Rattle.verdicts.specs.Verdicts.{verdict}
+use Rattle.verdicts.specs.Numbers.{numbers}
 use Rattle.structure.specs.Structure.{structure_of}
 use Rattle.structure.proofs.Structured.{some-classes, exception-class}
 use Rattle.rows.specs.Typed.{typed_of}
@@ -27,7 +29,7 @@ use Rattle.values.specs.declared.Slot.{Slot}
 use Rattle.threads.specs.declared.Thread.{Thread}
 use Rattle.state.specs.declared.State.{State}
 use Rattle.state.specs.State.{fields_with, empty_state}
-use Rattle.turns.specs.declared.Stepped.{Stepped}
+use Rattle.turns.specs.Stepped.{Stepped}
 use Rattle.turns.specs.Moves.{first_fields}
 use Rattle.machine.specs.Machine.{main_thread, readable, fresh_state, fresh_of}
 use Rattle.machine.specs.Runs.{answer, after, run, reached}
@@ -37,27 +39,30 @@ use Rattle.soundness.proofs.Fresh.{inv-fresh}
 use Rattle.soundness.proofs.Demand3.{inv-after}
 use Rattle.memory.specs.Tab.{tab}
 use Rattle.memory.specs.Words.{slot_of}
-use Rattle.memory.specs.Frames.{thread_in, begun_in}
+use Rattle.memory.specs.declared.Frame.{Frame}
+use Rattle.memory.specs.Frames.{Sixteen, empty_frame, thread_in, begun_in}
 use Rattle.memory.proofs.Tab.{tab-at}
+use Rattle.runner.specs.declared.table.Row.{Row}
 use Rattle.runner.specs.Run.{step_in, steps_in, taken, refused_by, ran_of}
 use Rattle.runner.specs.Table.{row_of}
-use Rattle.runner.specs.Memory.{Memory, memory, frame_of, thread_from, slot_from, state_from, Sized}
-use Rattle.runner.specs.Objects.{Heap, heap, fields_in, added_in}
+use Rattle.runner.specs.declared.running.Memory.{Memory}
+use Rattle.runner.specs.Memory.{memory, no_frame, frame_of, framed, thread_from, slot_from, state_from, Sized}
+use Rattle.runner.specs.Objects.{fields_in, added_in}
 use Rattle.runner.specs.Poised.{Running, Turned}
 use Rattle.runner.proofs.Stores.{threads-set, sized_set, fields_made, sized-made, object-made}
 
-pub record Halfway (b xs : List ℕ) (table : List (List ℕ)) (m : Memory) (steps n : ℕ) : Type 0 where
+pub record Halfway (b xs : List ℕ) (table : List Row) (m : Memory) (steps n : ℕ) : Type 0 where
   pub running : Running b table m
   pub last_state : run b (state_from m) (steps_in (drop n xs)) ≡ reached b (steps_in xs)
   pub number : steps + taken b (state_from m) (steps_in (drop n xs)) ≡ taken b (fresh_of b).state (steps_in xs)
   pub bound : steps ≤ n
 
 -- ---- the fresh machine
-abbrev none : List (List ℕ)
-none = replicate 8 (replicate 36 0)
+abbrev none : List Frame
+none = replicate 8 empty_frame
 
-abbrev born : List ℕ
-born = begun_in (replicate 36 0) (replicate 16 0) 0
+abbrev born : Frame
+born = begun_in empty_frame (replicate 16 0) 0
 
 empty-threads : tab 8 (thread_from none) ≡ empty_state.threads
 unfolding tab slot_of
@@ -68,22 +73,22 @@ unfolding tab slot_of
 empty-fields = refl
 
 born-main : thread_in born ≡ main_thread
-unfolding tab slot_of set_below
+unfolding tab slot_of
 born-main = refl
 
-born-36 : length born ≡ 36
-unfolding set_below
-born-36 = refl
+frames-short : (i : ℕ) → i < 8 → Sixteen (frame_of none i)
+frames-short i l = rw (get_or-replicate 8 i empty_frame no_frame l) (record { vars_16 = refl; stack_16 = refl })
 
-frame-short : (i : ℕ) → i < 8 → length (frame_of none i) ≡ 36
-frame-short i l = ap length (get_or-replicate 8 i (replicate 36 0) [] l)
+-- an accepted bundle
+pub number-0 : (b : List ℕ) (n : ℕ) → verdict 0 n 0 ≡ verdict_of b → (verdict_of b).number ≡ 0
+number-0 b n e = sym (ap (λ (v : Verdict). v.number) e)
 
 module _ (b : List ℕ) (e : (verdict_of b).number ≡ 0) where
   pub exception-8 : exception b < 8
   exception-8 = omega (arith, exception-class b (agrees_back b e), (some-classes b (agrees_back b e)).1)
 
   abbrev firsts : List ℕ
-  firsts = fields_in (replicate 128 0) 0 (row_of b (exception b))
+  firsts = fields_in (replicate 128 0) 0 (row_of b (exception b)).first
 
   abbrev start : Memory
   start = memory (set none 0 born) (replicate 256 0) (replicate 8 0) 1 (set (replicate 32 0) 0 (exception b)) firsts
@@ -91,7 +96,7 @@ module _ (b : List ℕ) (e : (verdict_of b).number ≡ 0) where
   start-sized : Sized start.frames start.fields
   start-sized =
       sized_set none 0 born refl (omega arith) firsts
-      (sized-made b (exception b) 0 (replicate 128 0) refl (omega arith) none (record { frames_8 = refl; frame_36 = frame-short; fields_128 = refl })) born-36
+      (sized-made b (exception b) 0 (replicate 128 0) refl (omega arith) none (record { frames_8 = refl; frame_16 = frames-short; fields_128 = refl })) (record { vars_16 = refl; stack_16 = refl })
 
   fresh-memory : state_from start ≡ fresh_state (program_of b)
   unfolding program_of
@@ -131,7 +136,7 @@ module _ (b : List ℕ) (e : (verdict_of b).number ≡ 0) where
   from_zero : (m n : ℕ) → m ≡ n → 0 + m ≡ n
   from_zero m n q = omega arith
 
-  fresh-begins : (xs : List ℕ) (table : List (List ℕ)) → table ≡ tab 8 (row_of b) → Halfway b xs table start 0 0
+  fresh-begins : (xs : List ℕ) (table : List Row) → table ≡ tab 8 (row_of b) → Halfway b xs table start 0 0
   unfolding program_of
   fresh-begins xs table t =
       let q : state_from start ≡ (fresh_of b).state = fresh-memory ∙ sym fresh-state in
@@ -147,29 +152,26 @@ module _ (b : List ℕ) (e : (verdict_of b).number ≡ 0) where
         bound = omega arith;
       }
 
+  abbrev empty : Memory
+  empty = memory none (replicate 256 0) (replicate 8 0) 0 (replicate 32 0) (replicate 128 0)
+
+  abbrev with_thrown : ℕ → Row → Memory
+  with_thrown c row = memory none (replicate 256 0) (replicate 8 0) 1 (set (replicate 32 0) 0 c) (fields_in (replicate 128 0) 0 row.first)
+
   -- as the code lays it: the thrown object first, and thread 0
-  pub begins : (xs : List ℕ) (table : List (List ℕ)) → table ≡ tab 8 (row_of b) → (c : ℕ) → c ≡ exception b → (o : ℕ) (k f p : List ℕ)
-      → heap o k f ≡ added_in table 0 (replicate 32 0) (replicate 128 0) c → p ≡ begun_in (replicate 36 0) (replicate 16 0) 0
-      → Halfway b xs table (memory (set (replicate 8 (replicate 36 0)) 0 p) (replicate 256 0) (replicate 8 0) o k f) 0 0
+  pub begins : (xs : List ℕ) (table : List Row) → table ≡ tab 8 (row_of b) → (c : ℕ) (d : Row) → c ≡ exception b → (m : Memory) (p : Frame)
+      → m ≡ added_in empty c (get_or table c d).first → p ≡ begun_in (frame_of m.frames 0) (replicate 16 0) 0 → Halfway b xs table (framed m 0 p) 0 0
   unfolding added_in
-  begins xs table t c ec o k f p eh ep =
-      let r : get_or table c [] ≡ row_of b (exception b) = rw (ec, t) (tab-at 8 (row_of b) (exception b) [] exception-8) in
-      let h : heap 1 (set (replicate 32 0) 0 (exception b)) firsts ≡ heap o k f =
-      ap (λ (row : List ℕ). heap 1 (set (replicate 32 0) 0 (exception b)) (fields_in (replicate 128 0) 0 row)) (sym r)
-      ∙ ap (λ (x : ℕ). heap 1 (set (replicate 32 0) 0 x) (fields_in (replicate 128 0) 0 (get_or table c []))) (sym ec) ∙ sym eh in
-      subst (λ (p : List ℕ). Halfway b xs table (memory (set none 0 p) (replicate 256 0) (replicate 8 0) o k f) 0 0) (sym ep)
-      (subst (λ (x : Heap). Halfway b xs table (memory (set none 0 born) (replicate 256 0) (replicate 8 0) x.objects x.classes x.fields) 0 0) h (fresh-begins xs table t))
+  begins xs table t c d ec m p em ep =
+      let r : get_or table c d ≡ row_of b (exception b) = rw (ec, t) (tab-at 8 (row_of b) (exception b) d exception-8) in
+      let h : m ≡ with_thrown (exception b) (row_of b (exception b)) = em ∙ ap (λ (x : ℕ). with_thrown x (get_or table c d)) ec ∙ ap (with_thrown (exception b)) r in
+      subst (λ (p : Frame). Halfway b xs table (framed m 0 p) 0 0) (sym ep)
+      (subst (λ (y : Memory). Halfway b xs table (framed y 0 (begun_in (frame_of y.frames 0) (replicate 16 0) 0)) 0 0) (sym h) (fresh-begins xs table t))
 
 -- ---- a turn
 steps_next : (xs : List ℕ) (n : ℕ) → n < length xs → steps_in (drop n xs) ≡ step_in (at xs n) ∷ steps_in (drop (n + 1) xs)
 unfolding steps_in
 steps_next xs n l = rw (drop-cons xs n 0 l, add-one)
-
-pub counted-in : (n s s' : ℕ) → n ≤ 2 → s' ≡ s + 1 → s' ≡ s + cond (leb n 2) 1 0
-counted-in n s s' l e = rw (le-leb n 2 l) e
-
-pub counted-out : (n s s' : ℕ) → 2 < n → s' ≡ s → s' ≡ s + cond (leb n 2) 1 0
-counted-out n s s' l e = rw (lt-leb n 2 l) (omega arith)
 
 counted-one : (n : ℕ) → cond (leb n 2) 1 0 ≤ 1
 counted-one n = go (leb n 2)
@@ -178,7 +180,7 @@ counted-one n = go (leb n 2)
     go true = omega arith
     go false = omega arith
 
-module _ (b xs : List ℕ) (table : List (List ℕ)) (m : Memory) (steps n : ℕ) (w : Halfway b xs table m steps n) (l : n < length xs) (m' : Memory) (x steps' : ℕ)
+module _ (b xs : List ℕ) (table : List Row) (m : Memory) (steps n : ℕ) (w : Halfway b xs table m steps n) (l : n < length xs) (m' : Memory) (x steps' : ℕ)
     (t : Turned b m m' x (at xs n % 8) (leb 128 (at xs n))) (q : steps' ≡ steps + cond (leb x 2) 1 0) where
   state-is : state_from m' ≡ after b (state_from m) (step_in (at xs n))
   state-is = ap (λ (r : Stepped). r.state) t.step
@@ -216,18 +218,39 @@ module _ (b xs : List ℕ) (table : List (List ℕ)) (m : Memory) (steps n : ℕ
       }
 
 -- ---- the end
-pub arrives : (b xs : List ℕ) (table : List (List ℕ)) (m : Memory) (steps n : ℕ) → Halfway b xs table m steps n → n ≡ length xs
+pub arrives : (b xs : List ℕ) (table : List Row) (m : Memory) (steps n : ℕ) → Halfway b xs table m steps n → n ≡ length xs
     → (state_from m ≡ reached b (steps_in xs)) × (steps ≡ taken b (fresh_of b).state (steps_in xs))
 unfolding run taken steps_in
 arrives b xs table m steps n w e =
     let d : drop n xs ≡ [] = rw e (drop-length xs) in
     (rw d at w.last_state, omega (arith, rw d at w.number))
 
-pub ran-accepted : (b xs : List ℕ) → (verdict_of b).number ≡ 0
-    → record { answer = 0; verdict = verdict_of b; state = reached b (steps_in xs); steps = taken b (fresh_of b).state (steps_in xs) } ≡ ran_of b xs
+pub ran-accepted : (b xs : List ℕ) (n : ℕ) → verdict 0 n 0 ≡ verdict_of b
+    → record { answer = 0; verdict = verdict 0 n 0; state = reached b (steps_in xs); steps = taken b (fresh_of b).state (steps_in xs) } ≡ ran_of b xs
 unfolding ran_of
-ran-accepted b xs e = sym (went_on_lem _ _ (eq-eqb (verdict_of b).number 0 e))
+ran-accepted b xs n e = rw e (sym (went_on_lem _ _ (eq-eqb (verdict_of b).number 0 (number-0 b n e))))
 
-pub ran-refused : (b xs : List ℕ) (v : Verdict) → v ≡ verdict_of b → v.number ≢ 0 → refused_by v ≡ ran_of b xs
+-- no refusal has the number 0
+refused-number : (r : Refusal) → 1 ≤ (numbers r).number
+refused-number Length = omega arith
+refused-number Trailer = omega arith
+refused-number Directory = omega arith
+refused-number (Limits c) = omega arith
+refused-number (Extent c) = omega arith
+refused-number (Descriptors c) = omega arith
+refused-number (Instruction c l) = omega arith
+refused-number (Form c l) = omega arith
+refused-number (Rule c l w) = omega arith
+refused-number (FirstRow c) = omega arith
+refused-number NoPairs = omega arith
+refused-number Overlap = omega arith
+refused-number Room = omega arith
+refused-number (Order c l) = omega arith
+refused-number Levels = omega arith
+refused-number Given = omega arith
+
+pub ran-refused : (b xs : List ℕ) (r : Refusal) → numbers r ≡ verdict_of b → refused_by (numbers r) ≡ ran_of b xs
 unfolding ran_of
-ran-refused b xs v q n = rw q (sym (stopped _ _ (ne_eqb (verdict_of b).number 0 (rw q at n))))
+ran-refused b xs r q =
+    let n : 1 ≤ (numbers r).number = refused-number r in
+    rw q (sym (stopped _ _ (ne_eqb (verdict_of b).number 0 (let k : 1 ≤ (verdict_of b).number = rw q at n in omega arith))))

@@ -1,5 +1,5 @@
 -- What is known where a live thread takes its step: soundness says that it draws no fault, so the step is its wait or its move.
-use mathlib.Core.List.{List, []}
+use mathlib.Core.List.{List}
 use mathlib.Core.Path.{◌≡◌, refl, sym, ap, subst, ◌∙◌}
 use mathlib.Core.Bool.{Bool, true, false, ◌&&◌}
 use Prim.Native.Nat.{ℕ, ◌+◌, ◌*◌, ◌-◌, ◌<◌, ◌≤◌}
@@ -7,7 +7,6 @@ use lib.Dec.{ltb}
 use lib.ListN.{length, get_or}
 use native.Mathlib.Omega.{arith}
 use borrow.Author.Tests.{lt-ltb, eq-eqb}
-use Rattle.ground.specs.Bytes.{at}
 use Rattle.ground.specs.Chain.{refuse}
 use Rattle.ground.proofs.Chain.{went_on_lem}
 use Rattle.ground.proofs.Chain.{refused as stopped}
@@ -27,7 +26,7 @@ use Rattle.state.specs.State.{count_of, class_of}
 use Rattle.state.specs.State.{thread_at as thread_of}
 use Rattle.belongs.specs.Belongs.{state_ok}
 use Rattle.belongs.proofs.Belongs.{Placed}
-use Rattle.turns.specs.declared.Stepped.{Stepped}
+use Rattle.turns.specs.Stepped.{Stepped}
 use Rattle.turns.specs.Answers.{test, unless_drawn}
 use Rattle.turns.specs.Faults.{fault_of}
 use Rattle.turns.specs.Waits.{wait_of}
@@ -39,10 +38,13 @@ use Rattle.soundness.specs.Invariant.{Live}
 use Rattle.soundness.proofs.Invariant.{placed, vars_16, limit_16, depth_limit, state-ok}
 use Rattle.soundness.proofs.Verified.{accepted as judged}
 use Rattle.soundness.proofs.Steps.{no_fault}
-use Rattle.memory.specs.Frames.{live_in, class_in, address_in, depth_in, thread_in}
+use Rattle.memory.specs.declared.Frame.{Frame}
+use Rattle.memory.specs.Frames.{Sixteen, thread_in}
 use Rattle.memory.proofs.Tab.{tab-at}
+use Rattle.runner.specs.declared.table.Row.{Row}
 use Rattle.runner.specs.Table.{row_of}
-use Rattle.runner.specs.Memory.{Memory, frame_of, thread_from, state_from}
+use Rattle.runner.specs.declared.running.Memory.{Memory}
+use Rattle.runner.specs.Memory.{frame_of, thread_from, state_from}
 use Rattle.runner.specs.Poised.{Running, Poised, Turned}
 use Rattle.runner.proofs.Places.{code-within, instruction-there}
 
@@ -61,7 +63,7 @@ pub none-drawn : (n : ℕ) (s : State) (rest : Stepped) → n ≡ 0 → unless_d
 unfolding unless_drawn refuse
 none-drawn n s rest e = rw e
 
-module _ (b : List ℕ) (table : List (List ℕ)) (m : Memory) (u : Running b table m) where
+module _ (b : List ℕ) (table : List Row) (m : Memory) (u : Running b table m) where
   can-read : readable b ≡ true
   can-read = eq-eqb (structure_of b).number 0 (agrees_back b u.accepted)
 
@@ -74,11 +76,11 @@ module _ (b : List ℕ) (table : List (List ℕ)) (m : Memory) (u : Running b ta
   pub thread-is : (i : ℕ) → i < 8 → thread_of (state_from m) i ≡ thread_in (frame_of m.frames i)
   thread-is i l = tab-at 8 (thread_from m.frames) i idle l
 
-  pub row_is : (c : ℕ) → c < 8 → get_or table c [] ≡ row_of b c
-  row_is c l = rw u.tabled (tab-at 8 (row_of b) c [] l)
+  pub row_is : (c : ℕ) (d : Row) → c < 8 → get_or table c d ≡ row_of b c
+  row_is c d l = rw u.tabled (tab-at 8 (row_of b) c d l)
 
   -- a thread that isn't live rests
-  pub rests : (i : ℕ) → i < 8 → (fails : Bool) → live_in (frame_of m.frames i) ≡ false → Turned b m m 5 i fails
+  pub rests : (i : ℕ) → i < 8 → (fails : Bool) → (frame_of m.frames i).live ≡ false → Turned b m m 5 i fails
   unfolding step_of
   rests i l fails e =
       record { sized = u.sized; step = sym (went_on_lem _ _ can-read ∙ went_on_lem _ _ belongs-here ∙ stopped _ _ sleeping) }
@@ -86,24 +88,24 @@ module _ (b : List ℕ) (table : List (List ℕ)) (m : Memory) (u : Running b ta
       sleeping : (ltb i 8 && (thread_of (state_from m) i).live) ≡ false
       sleeping = rw (lt-ltb i 8 l, thread-is i l, e)
 
-module _ (b : List ℕ) (table : List (List ℕ)) (m : Memory) (i : ℕ) (z : Poised b table m i) where
+module _ (b : List ℕ) (table : List Row) (m : Memory) (i : ℕ) (z : Poised b table m i) where
   abbrev pub P : Program
   P = program_of b
 
   abbrev pub S : State
   S = state_from m
 
-  abbrev pub F : List ℕ
+  abbrev pub F : Frame
   F = frame_of m.frames i
 
   abbrev pub T : Thread
   T = thread_in (frame_of m.frames i)
 
   abbrev pub M : Method
-  M = (program_of b).method (class_in (frame_of m.frames i))
+  M = (program_of b).method ((frame_of m.frames i).class)
 
   abbrev pub X : Instruction
-  X = ((program_of b).method (class_in (frame_of m.frames i))).instruction (address_in (frame_of m.frames i))
+  X = ((program_of b).method ((frame_of m.frames i).class)).instruction ((frame_of m.frames i).at)
 
   abbrev A : Accepted (typed_of b)
   A = accepts b table m z.running
@@ -133,10 +135,10 @@ module _ (b : List ℕ) (table : List (List ℕ)) (m : Memory) (i : ℕ) (z : Po
       ∙ ap (λ (t : Thread). run_of P S i t fails) here-is
       ∙ none-drawn _ S _ (no-fault-here fails)
 
-  known-class : class_in F < P.classes
+  known-class : F.class < P.classes
   known-class = alive.address.class_known
 
-  pub class_8 : class_in F < 8
+  pub class_8 : F.class < 8
   class_8 = omega (arith, known-class, A.formed.few_classes)
 
   pub formed : WellFormed P
@@ -148,72 +150,53 @@ module _ (b : List ℕ) (table : List (List ℕ)) (m : Memory) (i : ℕ) (z : Po
   pub few-places : M.limit ≤ 16
   few-places = limit_16 (typed_of b) A m.objects (class_of S) (count_of m.counts i) T alive
 
-  pub depth-16 : depth_in F ≤ 16
+  pub depth-16 : F.depth ≤ 16
   depth-16 = omega (arith, few-places, depth_limit (typed_of b) A m.objects (class_of S) (count_of m.counts i) T alive)
 
   pub short-code : M.code ≤ 256
-  short-code = A.formed.code_256 (class_in F) known-class
+  short-code = A.formed.code_256 (F.class) known-class
 
-  pub address_first : 1 ≤ address_in F
+  pub address_first : 1 ≤ F.at
   address_first = alive.address.first
 
-  pub address-256 : address_in F ≤ 256
+  pub address-256 : F.at ≤ 256
   address-256 = omega (arith, alive.address.last, short-code)
 
-  pub frame_36 : length F ≡ 36
-  frame_36 = z.running.sized.frame_36 i z.thread_8
+  pub frame_16 : Sixteen F
+  frame_16 = z.running.sized.frame_16 i z.thread_8
 
   pub placed-here : Placed P m.objects T
   placed-here = placed (typed_of b) A m.objects (class_of S) (count_of m.counts i) T alive
 
-  pub fits : InstructionFits P.classes (λ d. (P.method d).fields) M.vars M.code (address_in F) X
-  fits = A.formed.table (class_in F) (address_in F) known-class alive.address.first alive.address.last
+  pub fits : InstructionFits P.classes (λ d. (P.method d).fields) M.vars M.code (F.at) X
+  fits = A.formed.table (F.class) (F.at) known-class alive.address.first alive.address.last
 
-  -- ---- what the table says of the thread's class, q, and of a class that is started
-  pub vars-are : (q : ℕ) → q ≡ class_in F → at (get_or table q []) 1 ≡ M.vars
+  -- ---- what the table says of the thread's class, and of a class that is started
+  pub vars-are : (d : Row) → (get_or table F.class d).vars ≡ M.vars
   unfolding program_of method_at method_of
-  vars-are q e = rw e (ap (λ (l : List ℕ). at l 1) (row_is b table m z.running (class_in F) class_8))
+  vars-are d = ap (λ (r : Row). r.vars) (row_is b table m z.running F.class d class_8)
 
-  pub args_are : (c : ℕ) → c < P.classes → at (get_or table c []) 0 ≡ (P.method c).args
+  pub args_are : (c : ℕ) (d : Row) → c < P.classes → (get_or table c d).args ≡ (P.method c).args
   unfolding program_of method_at method_of
-  args_are c l = ap (λ (l : List ℕ). at l 0) (row_is b table m z.running c (omega (arith, A.formed.few_classes)))
+  args_are c d l = ap (λ (r : Row). r.args) (row_is b table m z.running c d (omega (arith, A.formed.few_classes)))
 
-  code-starts : (q : ℕ) → q ≡ class_in F → at (get_or table q []) 2 ≡ (class_at b (class_in F)).offset + descriptor_count (class_at b (class_in F))
-  code-starts q e = rw e (ap (λ (l : List ℕ). at l 2) (row_is b table m z.running (class_in F) class_8))
+  code-starts : (d : Row) → (get_or table F.class d).code ≡ (class_at b F.class).offset + descriptor_count (class_at b F.class)
+  code-starts d = ap (λ (r : Row). r.code) (row_is b table m z.running F.class d class_8)
 
-  lies : record_fits b (class_at b (class_in F)) ≡ true
+  lies : record_fits b (class_at b F.class) ≡ true
   unfolding program_of
-  lies = extents b (agrees_back b z.running.accepted) (class_in F) known-class
+  lies = extents b (agrees_back b z.running.accepted) F.class known-class
 
-  in_code : address_in F ≤ (class_at b (class_in F)).code
+  in_code : F.at ≤ (class_at b F.class).code
   unfolding program_of method_at method_of
   in_code = alive.address.last
 
-  pub code_read : (q a : ℕ) → q ≡ class_in F → a ≡ address_in F → at (get_or table q []) 2 + 4 * (a - 1) + 3 < length b
-  code_read q a e f = rw (code-starts q e, f) (code-within b (class_at b (class_in F)) (address_in F) lies address_first in_code)
+  pub code_read : (d : Row) → (get_or table F.class d).code + 4 * (F.at - 1) + 3 < length b
+  code_read d = rw (code-starts d) (code-within b (class_at b F.class) F.at lies address_first in_code)
 
-  pub short-bundle : length b ≤ 65535
-  short-bundle = (lengths b (agrees_back b z.running.accepted)).1
+  -- no place of the bundle is large
+  pub place-small : (d : Row) → (get_or table F.class d).code + 4 * (F.at - 1) < 18446744073709551616
+  place-small d = omega (arith, code_read d, (lengths b (agrees_back b z.running.accepted)).1)
 
-  pub instruction-here : (q a : ℕ) → q ≡ class_in F → a ≡ address_in F → decoded (code_from b (at (get_or table q []) 2 + 4 * (a - 1))) ≡ X
-  instruction-here q a e f = rw (code-starts q e, f) (instruction-there b (class_in F) (address_in F) lies address_first in_code)
-
-  -- ---- as `exec` asks it, of the class q and the address a that it read
-  module _ (q a : ℕ) (e : q ≡ class_in F) (f : a ≡ address_in F) where
-    pub class-small : q < 8
-    class-small = omega (arith, class_8)
-
-    pub next_small : a + 1 < 65536
-    next_small = omega (arith, address-256)
-
-    pub vars-small : at (get_or table q []) 1 < 256
-    vars-small = omega (arith, vars-are q e, few-vars)
-
-    pub address-some : 1 ≤ a
-    address-some = omega (arith, address_first)
-
-    pub place-small : at (get_or table q []) 2 + 4 * (a - 1) < 18446744073709551616
-    place-small = omega (arith, code_read q a e f, short-bundle)
-
-    pub stands_at : (x y : Instruction) → x ≡ decoded (code_from b (at (get_or table q []) 2 + 4 * (a - 1))) → x ≡ y → X ≡ y
-    stands_at x y g h = sym (instruction-here q a e f) ∙ sym g ∙ h
+  pub instruction-here : (d : Row) → decoded (code_from b ((get_or table F.class d).code + 4 * (F.at - 1))) ≡ X
+  instruction-here d = rw (code-starts d) (instruction-there b F.class F.at lies address_first in_code)

@@ -5,6 +5,7 @@ pub mod Known
 pub mod Steps
 pub mod Entering
 pub mod Making
+pub mod Lowest
 pub mod Starting
 pub mod Halfway
 pub mod Quiet

@@ -1,5 +1,5 @@
 -- start: what is known there, and that what its function writes is document 01's step.
-use mathlib.Core.List.{List, []}
+use mathlib.Core.List.{List}
 use mathlib.Core.Path.{◌≡◌, refl, sym, ap, subst, ◌∙◌}
 use mathlib.Core.Logic.{◌≢◌}
 use mathlib.Core.Bool.{Bool, true, false, not}
@@ -8,7 +8,6 @@ use lib.Dec.{ltb, leb}
 use lib.ListN.{length, get_or, set, length-set}
 use native.Mathlib.Omega.{arith}
 use borrow.Author.Tests.{leb-true, leb-false, lt-ltb, le-ltb, not-true}
-use Rattle.ground.specs.Bytes.{at}
 use Rattle.ground.specs.Chain.{refuse}
 use Rattle.ground.specs.Bounded.{first_below}
 use Rattle.ground.proofs.Bools.{never}
@@ -18,19 +17,22 @@ use Rattle.bundle.specs.Program.{program_of}
 use Rattle.threads.specs.declared.Thread.{Thread}
 use Rattle.threads.specs.Threads.{with_at, popped, started}
 use Rattle.state.specs.State.{not_live, lowest_free}
-use Rattle.turns.specs.declared.Stepped.{Stepped}
+use Rattle.turns.specs.Stepped.{Stepped}
 use Rattle.turns.specs.Answers.{test}
 use Rattle.turns.specs.Faults.{has}
 use Rattle.turns.specs.Waits.{wait_of}
 use Rattle.turns.specs.Moves.{move_of}
 use Rattle.memory.specs.Tab.{tab}
-use Rattle.memory.specs.Frames.{live_in, address_in, depth_in, thread_in, went_in, dropped_in, argument_in, begun_in}
+use Rattle.memory.specs.declared.Frame.{Frame}
+use Rattle.memory.specs.Frames.{thread_in, went_in, dropped_in, argument_in, begun_in}
 use Rattle.memory.proofs.Frames.{Is, dropped-is, begun-is}
-use Rattle.runner.specs.Memory.{Memory, memory, frame_of, thread_from, state_from, Sized}
-use Rattle.runner.specs.Starts.{Begun, begun, idle_in, lowest_in, started_in}
+use Rattle.runner.specs.declared.table.Row.{Row}
+use Rattle.runner.specs.declared.running.Memory.{Memory}
+use Rattle.runner.specs.Memory.{memory, frame_of, thread_from, state_from, Sized, Acted, acted}
+use Rattle.runner.specs.Starts.{idle_in, lowest_in, started_in}
 use Rattle.runner.specs.Poised.{Poised, Turned}
 use Rattle.runner.proofs.Stores.{frame-other, threads-set, sized_set}
-use Rattle.runner.proofs.Known.{test-holds, thread-is, F, M, X, formed, depth-16, frame_36, args_are}
+use Rattle.runner.proofs.Known.{test-holds, thread-is, F, M, X, formed, depth-16, frame_16, args_are}
 use Rattle.runner.proofs.Steps.{quiet, listed, goes, waits}
 use Rattle.runner.proofs.Entering.{Here, either}
 use Rattle.runner.proofs.Making.{on}
@@ -40,7 +42,7 @@ unfolding first_below
 first-same zero f g e = refl
 first-same (suc n) f g e = rw (e 0 (omega arith), first-same n (λ j. f (suc j)) (λ j. g (suc j)) (λ j l. e (suc j) (omega arith)))
 
-module _ (b : List ℕ) (table : List (List ℕ)) (m : Memory) (i : ℕ) (z : Poised b table m i) (fails : Bool) (c : ℕ) (q : X b table m i z ≡ Start c) where
+module _ (b : List ℕ) (table : List Row) (m : Memory) (i : ℕ) (z : Poised b table m i) (fails : Bool) (c : ℕ) (q : X b table m i z ≡ Start c) where
   abbrev J : ℕ
   J = lowest_in m.frames
 
@@ -57,13 +59,10 @@ module _ (b : List ℕ) (table : List (List ℕ)) (m : Memory) (i : ℕ) (z : Po
   few-args : ((program_of b).method c).args ≤ 16
   few-args = omega (arith, (formed b table m i z).args_vars c class_known, (formed b table m i z).vars_16 c class_known)
 
-  pub start-args : at (get_or table c []) 0 < 256
-  start-args = omega (arith, args_are b table m i z c class_known, few-args)
+  pub start-known : (n : ℕ) (d : Row) → n ≡ (get_or table c d).args → (i < 8) × (n < 255)
+  start-known n d e = (z.thread_8, omega (arith, args_are b table m i z c d class_known, few-args))
 
-  pub start-known : (n : ℕ) → n ≡ at (get_or table c []) 0 → (i < 8) × (n < 255)
-  start-known n e = (z.thread_8, omega (arith, args_are b table m i z c class_known, few-args))
-
-  deep : ((program_of b).method c).args + 1 ≤ depth_in (F b table m i z)
+  deep : ((program_of b).method c).args + 1 ≤ (F b table m i z).depth
   deep = leb-true _ _ (test-holds (has (((program_of b).method c).args + 1) (Here m i)) 11 _ (omega arith) (quiet b table m i z fails (Start c) q))
 
   wait-is : (t : Bool) → ltb (lowest_in m.frames) 8 ≡ t → wait_of (state_from m) i (Here m i) (Start c) ≡ test t 4 0
@@ -76,36 +75,36 @@ module _ (b : List ℕ) (table : List (List ℕ)) (m : Memory) (i : ℕ) (z : Po
     new-idle = first-is 8 (idle_in m.frames) l
 
     other : i ≢ J
-    other e = never z.live (subst (λ (j : ℕ). live_in (frame_of m.frames j) ≡ false) (sym e) (not-true _ new-idle))
+    other e = never z.live (subst (λ (j : ℕ). (frame_of m.frames j).live ≡ false) (sym e) (not-true _ new-idle))
 
     -- what is written, with n arguments
-    module _ (n to : ℕ) (en : n ≡ ((program_of b).method c).args) (t : to ≡ address_in (F b table m i z) + 1) where
-      abbrev First : List ℕ
+    module _ (n : ℕ) (en : n ≡ ((program_of b).method c).args) where
+      abbrev First : Frame
       First = begun_in (frame_of m.frames J) (tab 16 (argument_in (frame_of m.frames i) n)) c
 
-      abbrev Next : List (List ℕ)
+      abbrev Next : List Frame
       Next = set m.frames J First
 
-      abbrev Last : List ℕ
-      Last = went_in (dropped_in (n + 1) (get_or Next i [])) to
+      abbrev Last : Frame
+      Last = went_in (dropped_in (n + 1) (frame_of Next i)) ((F b table m i z).at + 1)
 
       first-thread : Is First (started (thread_in (frame_of m.frames J)) (Here m i) c n)
       first-thread =
-          begun-is (frame_of m.frames J) (F b table m i z) (z.running.sized.frame_36 J l) (depth-16 b table m i z) n c (omega (arith, deep)) (omega (arith, start-class))
+          begun-is (frame_of m.frames J) (F b table m i z) (z.running.sized.frame_16 J l) (depth-16 b table m i z) n c (omega (arith, deep))
 
-      last-thread : Is Last (with_at (popped (n + 1) (Here m i)) (address_in (F b table m i z) + 1))
+      last-thread : Is Last (with_at (popped (n + 1) (Here m i)) ((F b table m i z).at + 1))
       last-thread =
           rw (frame-other m.frames J First z.running.sized.frames_8 l i other)
-          (on b table m i z _ _ to t (dropped-is (F b table m i z) (frame_36 b table m i z) (depth-16 b table m i z) (n + 1) (omega (arith, deep))))
+          (on b table m i z _ _ (dropped-is (F b table m i z) (frame_16 b table m i z) (depth-16 b table m i z) (n + 1) (omega (arith, deep))))
 
       next-8 : length Next ≡ 8
       next-8 = length-set m.frames J First ∙ z.running.sized.frames_8
 
       all-threads : tab 8 (thread_from (set Next i Last))
-          ≡ set (set (tab 8 (thread_from m.frames)) J (started (thread_in (frame_of m.frames J)) (Here m i) c n)) i (with_at (popped (n + 1) (Here m i)) (address_in (F b table m i z) + 1))
+          ≡ set (set (tab 8 (thread_from m.frames)) J (started (thread_in (frame_of m.frames J)) (Here m i) c n)) i (with_at (popped (n + 1) (Here m i)) ((F b table m i z).at + 1))
       all-threads =
           threads-set Next i Last next-8 z.thread_8 _ last-thread.thread
-          ∙ ap (λ (ts : List Thread). set ts i (with_at (popped (n + 1) (Here m i)) (address_in (F b table m i z) + 1)))
+          ∙ ap (λ (ts : List Thread). set ts i (with_at (popped (n + 1) (Here m i)) ((F b table m i z).at + 1)))
           (threads-set m.frames J First z.running.sized.frames_8 l _ first-thread.thread)
 
       all-sized : Sized (set Next i Last) m.fields
@@ -120,7 +119,7 @@ module _ (b : List ℕ) (table : List (List ℕ)) (m : Memory) (i : ℕ) (z : Po
       unfolding state-with
       start-moves =
           rw (lowest-is, ← en)
-          (ap (λ (v : Thread). state-with (set (set (tab 8 (thread_from m.frames)) J (started v (Here m i) c n)) i (with_at (popped (n + 1) (Here m i)) (address_in (F b table m i z) + 1))))
+          (ap (λ (v : Thread). state-with (set (set (tab 8 (thread_from m.frames)) J (started v (Here m i) c n)) i (with_at (popped (n + 1) (Here m i)) ((F b table m i z).at + 1))))
           (thread-is b table m z.running J l)
           ∙ ap state-with (sym all-threads))
 
@@ -128,13 +127,13 @@ module _ (b : List ℕ) (table : List (List ℕ)) (m : Memory) (i : ℕ) (z : Po
       unfolding state-with refuse
       start-begins = goes b table m i z fails (Start c) q (wait-is true (lt-ltb J 8 l)) _ 0 all-sized start-moves
 
-  pub start-turned : (r : ℕ) (fs : List (List ℕ)) (n to : ℕ) → n ≡ at (get_or table c []) 0 → to ≡ address_in (F b table m i z) + 1
-      → begun r fs ≡ started_in m.frames i n c to → Turned b m (memory fs m.counts m.held m.objects m.classes m.fields) r i fails
+  pub start-turned : (r : ℕ) (m' : Memory) (n : ℕ) (d : Row) → n ≡ (get_or table c d).args
+      → acted r m' ≡ started_in m i n c ((F b table m i z).at + 1) → Turned b m m' r i fails
   unfolding started_in refuse
-  start-turned r fs n to en t e =
+  start-turned r m' n d en e =
       subst Q (sym e)
       (either Q (leb 8 J) _ _ (λ f. waits b table m i z fails (Start c) q 4 (wait-is false (le-ltb J 8 (leb-true 8 J f))) (omega arith))
-      (λ f. start-begins (leb-false 8 J f) n to (en ∙ args_are b table m i z c class_known) t))
+      (λ f. start-begins (leb-false 8 J f) n (en ∙ args_are b table m i z c d class_known)))
     where
-      Q : Begun → Type 0
-      Q x = Turned b m (memory x.frames m.counts m.held m.objects m.classes m.fields) x.answer i fails
+      Q : Acted → Type 0
+      Q x = Turned b m x.after x.answer i fails

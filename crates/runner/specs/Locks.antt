@@ -1,20 +1,12 @@
--- What monitorenter and monitorexit write into the arrays. Nothing here has to be believed: `Turned` (Poised) ties it to document 01's step.
+-- What monitorenter and monitorexit write into the memory. Nothing here has to be believed: `Turned` (Poised) ties it to document 01's step.
 use Rattle.std.specs.Prelude.{List, Bool, cond, not, ℕ, ◌+◌, ◌*◌, ◌-◌, ◌/◌, ◌%◌, ◌^◌, leb, eqb, set}
 use Rattle.std.specs.Int.Bits.{bit_or}
 use Rattle.ground.specs.Bytes.{at}
 use Rattle.held.specs.Word.{marked}
 use Rattle.memory.specs.Words.{object_in}
-use Rattle.memory.specs.Frames.{var_in, went_in, thrown_in}
-
--- the answer, and what the thread's frame, the counts and the held words are then
-pub record Locked : Type 0 where
-  pub answer : ℕ
-  pub frame : List ℕ
-  pub counts : List ℕ
-  pub held : List ℕ
-
-abbrev pub locked : ℕ → List ℕ → List ℕ → List ℕ → Locked
-locked answer frame counts held = record { answer = answer; frame = frame; counts = counts; held = held }
+use Rattle.memory.specs.Frames.{var_in, went_in}
+use Rattle.runner.specs.declared.running.Memory.{Memory}
+use Rattle.runner.specs.Memory.{memory, frame_of, Acted, acted, threw_in}
 
 -- the bits of all held words
 abbrev pub all_held : List ℕ → ℕ
@@ -25,17 +17,22 @@ all_held held =
 unfoldable pub held_by_other : List ℕ → ℕ → ℕ → Bool
 held_by_other held i o = not (eqb (all_held held / 2 ^ o % 2) (at held i / 2 ^ o % 2))
 
--- thread i's count of o becomes n, and bit o of its word goes with it
-abbrev pub counted_in : List ℕ → List ℕ → List ℕ → ℕ → ℕ → ℕ → ℕ → Locked
-counted_in frame counts held i o n to = locked 0 (went_in frame to) (set counts (i * 32 + o) n) (set held i (marked (at held i) o n))
+-- thread i goes on, its count of o becomes n, and bit o of its word goes with it
+abbrev pub counted_in : Memory → ℕ → ℕ → ℕ → ℕ → Memory
+counted_in m i o n to =
+    memory (set m.frames i (went_in (frame_of m.frames i) to)) (set m.counts (i * 32 + o) n) (set m.held i (marked (at m.held i) o n)) m.objects m.classes m.fields
+
+-- the object that variable v of thread i refers to
+abbrev pub lock_in : Memory → ℕ → ℕ → ℕ
+lock_in m i v = object_in (var_in (frame_of m.frames i) v)
 
 -- monitorenter adds one to the count, unless another thread holds the object (3); null throws object 0
-unfoldable pub entered_in : List ℕ → List ℕ → List ℕ → ℕ → ℕ → ℕ → ℕ → ℕ → Locked
-entered_in frame counts held i vars v h to =
-    cond (leb 4294967552 (var_in frame v)) (locked (cond (eqb h 0) 2 0) (thrown_in frame vars h 4294967296) counts held)
-    (cond (held_by_other held i (object_in (var_in frame v))) (locked 3 frame counts held)
-    (counted_in frame counts held i (object_in (var_in frame v)) (at counts (i * 32 + object_in (var_in frame v)) + 1) to))
+unfoldable pub entered_in : Memory → ℕ → ℕ → ℕ → ℕ → ℕ → Acted
+entered_in m i vars v h to =
+    cond (leb 4294967552 (var_in (frame_of m.frames i) v)) (threw_in m i vars h 4294967296)
+    (cond (held_by_other m.held i (lock_in m i v)) (acted 3 m)
+    (acted 0 (counted_in m i (lock_in m i v) (at m.counts (i * 32 + lock_in m i v) + 1) to)))
 
 -- monitorexit takes one away
-unfoldable pub left_in : List ℕ → List ℕ → List ℕ → ℕ → ℕ → ℕ → Locked
-left_in frame counts held i v to = counted_in frame counts held i (object_in (var_in frame v)) (at counts (i * 32 + object_in (var_in frame v)) - 1) to
+unfoldable pub left_in : Memory → ℕ → ℕ → ℕ → Memory
+left_in m i v to = counted_in m i (lock_in m i v) (at m.counts (i * 32 + lock_in m i v) - 1) to

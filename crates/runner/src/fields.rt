@@ -2,9 +2,13 @@
 ghost use Rattle.std.specs.Prelude.{◌≡◌, false, ◌+◌, ◌*◌, ◌<◌, leb};
 ghost use Rattle.memory.specs.Words.{object_in};
 ghost use Rattle.memory.specs.Frames.{top_in, under_in};
-ghost use Rattle.runner.specs.Fields.{fielded, got_in, put_in};
+ghost use Rattle.turns.specs.Numbers.{answer_number};
+ghost use Rattle.runner.specs.Memory.{frame_of, acted};
+ghost use Rattle.runner.specs.Fields.{got_in, put_in};
 
+use crate::running::{Here, Memory};
 use instructions::Addr;
+use turns::Answer;
 
 fn place(o: u8, f: u8) -> usize
     ensures { result ≡ o * 4 + f }
@@ -12,44 +16,31 @@ fn place(o: u8, f: u8) -> usize
     (o as usize) * 4 + (f as usize)
 }
 
-pub(crate) fn get(
-    frame: &mut [u64; 36],
-    fields: &[u64; 128],
-    vars: u8,
-    f: u8,
-    h: Addr,
-    to: u16,
-) -> u8
-    requires { leb 4294967552 (top_in frame.old) ≡ false → object_in (top_in frame.old) * 4 + f < 128 }
-    ensures { fielded result frame.new fields.now ≡ got_in frame.old fields.now vars f h.0 to }
+pub(crate) fn get(m: &mut Memory, here: Here, f: u8, h: Addr) -> Answer
+    requires { (here.thread < 8) × (leb 4294967552 (top_in (frame_of m.old.frames here.thread)) ≡ false → object_in (top_in (frame_of m.old.frames here.thread)) * 4 + f < 128) }
+    ensures { acted (answer_number result) m.new ≡ got_in m.old here.thread here.vars f h.0 here.next }
 {
-    let w = memory::top(frame);
+    let w = m.frames[here.thread].top();
     if memory::words::NULL <= w {
-        return memory::throw(frame, vars, h, memory::words::REF);
+        return m.throw(here, h, memory::words::REF);
     }
     let k = place(memory::words::object_in(w), f);
-    memory::set_top(frame, fields[k], to);
-    0
+    let value = m.fields[k];
+    m.frames[here.thread].set_top(value, here.next);
+    Answer::WentOn
 }
 
 // The value is on top, the owner below it.
-pub(crate) fn put(
-    frame: &mut [u64; 36],
-    fields: &mut [u64; 128],
-    vars: u8,
-    f: u8,
-    h: Addr,
-    to: u16,
-) -> u8
-    requires { leb 4294967552 (under_in frame.old) ≡ false → object_in (under_in frame.old) * 4 + f < 128 }
-    ensures { fielded result frame.new fields.new ≡ put_in frame.old fields.old vars f h.0 to }
+pub(crate) fn put(m: &mut Memory, here: Here, f: u8, h: Addr) -> Answer
+    requires { (here.thread < 8) × (leb 4294967552 (under_in (frame_of m.old.frames here.thread)) ≡ false → object_in (under_in (frame_of m.old.frames here.thread)) * 4 + f < 128) }
+    ensures { acted (answer_number result) m.new ≡ put_in m.old here.thread here.vars f h.0 here.next }
 {
-    let w = memory::under(frame);
+    let w = m.frames[here.thread].under();
     if memory::words::NULL <= w {
-        return memory::throw(frame, vars, h, memory::words::REF);
+        return m.throw(here, h, memory::words::REF);
     }
     let k = place(memory::words::object_in(w), f);
-    fields[k] = memory::top(frame);
-    memory::drop(frame, 2, to);
-    0
+    m.fields[k] = m.frames[here.thread].top();
+    m.frames[here.thread].drop(2, here.next);
+    Answer::WentOn
 }

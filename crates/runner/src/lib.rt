@@ -5,86 +5,72 @@
 mod fields;
 mod locks;
 mod objects;
+mod running;
 mod starts;
-mod states;
 mod table;
 mod turn;
 
-ghost use Rattle.std.specs.Prelude.{◌≡◌};
+ghost use Rattle.std.specs.Prelude.{◌≡◌, Ok, leb};
+ghost use Rattle.turns.specs.Numbers.{answer_number};
+ghost use Rattle.verdicts.specs.Numbers.{judgement};
 ghost use Rattle.verifier.specs.Verdict.{verdict_of};
-ghost use Rattle.runner.specs.Run.{refused_by, ran_of};
+ghost use Rattle.runner.specs.Run.{ran_in, ran_of};
 
+use memory::Frame;
+use running::Memory;
 use state::State;
-use structure::Verdict;
+use turns::Answer;
+use verdicts::Refusal;
 
-// 0, or 19 where the bundle is refused; the verdict; the last state; how many steps answered 0, 1 or 2. The state comes first, with no gap before it.
+// The last state, how many steps answered 0, 1 or 2, and the class count of the bundle. The state comes first, with no gap before it.
 #[derive(Clone, Copy)]
 pub struct Ran {
     pub state: State,
-    pub verdict: Verdict,
     pub steps: usize,
-    pub answer: u8,
+    pub classes: u8,
 }
 
-fn refused(v: Verdict) -> Ran
-    ensures { result ≡ refused_by v }
+// Whether a step changes the state: the answers 0, 1 and 2.
+fn is_taken(x: Answer) -> bool
+    ensures { result ≡ leb (answer_number x) 2 }
 {
-    Ran {
-        answer: 19,
-        verdict: v,
-        state: state::empty_state(),
-        steps: 0,
-    }
+    matches!(x, Answer::WentOn | Answer::Returned | Answer::Uncaught)
 }
 
 // The arrays are local, and lent to the steps: nothing of the state is copied before the end.
-fn accepted(b: &[u8], schedule: &[u8], v: Verdict) -> Ran
-    requires { (v ≡ verdict_of b.now) × (v.number ≡ 0) }
-    ensures { result ≡ ran_of b.now schedule.now }
+fn accepted(b: &[u8], schedule: &[u8], classes: u8) -> Ran
+    requires { judgement (Ok classes) ≡ verdict_of b.now }
+    ensures { ran_in (Ok result) ≡ ran_of b.now schedule.now }
 {
     let table = table::table_of(b);
-    let mut frames = [[0u64; 36]; 8];
-    let mut counts = [0u16; 256];
-    let mut held = [0u32; 8];
-    let mut objects: u8 = 0;
-    let mut classes = [0u8; 32];
-    let mut fields = [0u64; 128];
+    let mut m = Memory {
+        frames: [Frame::new(); 8],
+        counts: [0; 256],
+        held: [0; 8],
+        objects: 0,
+        classes: [0; 32],
+        fields: [0; 128],
+    };
     let mut steps: usize = 0;
     let c = bundle::exception(b);
-    objects::add(&table, &mut objects, &mut classes, &mut fields, c);
-    memory::starts::begin(&mut frames[0], [0u64; 16], 0);
-    for n in 0..schedule.len() {
-        let x = schedule[n];
-        let answer = turn::turn(
-            b,
-            &table,
-            &mut frames,
-            &mut counts,
-            &mut held,
-            &mut objects,
-            &mut classes,
-            &mut fields,
-            x,
-        );
-        if answer <= 2 {
+    objects::add(&mut m, c, &table[c as usize].first);
+    m.frames[0].begin([0; 16], 0);
+    for x in schedule {
+        if is_taken(turn::turn(b, &table, &mut m, *x)) {
             steps += 1;
         }
     }
-    let last = states::state_from(&frames, counts, held, objects, classes, &fields);
     Ran {
-        answer: 0,
-        verdict: v,
-        state: last,
-        steps: steps,
+        state: m.state(),
+        steps,
+        classes,
     }
 }
 
-pub fn run(b: &[u8], schedule: &[u8]) -> Ran
-    ensures { result ≡ ran_of b.now schedule.now }
+// Refused where the bundle is.
+pub fn run(b: &[u8], schedule: &[u8]) -> Result<Ran, Refusal>
+    ensures { ran_in result ≡ ran_of b.now schedule.now }
 {
-    let v = verifier::verify(b);
-    if v.number != 0 {
-        return refused(v);
-    }
-    accepted(b, schedule, v)
+    let classes = verifier::verify(b)?;
+    Ok(accepted(b, schedule, classes))
 }

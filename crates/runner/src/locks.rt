@@ -3,9 +3,13 @@ ghost use Rattle.std.specs.Prelude.{◌≡◌, false, ◌+◌, ◌*◌, ◌<◌,
 ghost use Rattle.ground.specs.Bytes.{at};
 ghost use Rattle.memory.specs.Words.{object_in};
 ghost use Rattle.memory.specs.Frames.{var_in};
-ghost use Rattle.runner.specs.Locks.{locked, held_by_other, entered_in, left_in};
+ghost use Rattle.turns.specs.Numbers.{answer_number};
+ghost use Rattle.runner.specs.Memory.{frame_of, acted};
+ghost use Rattle.runner.specs.Locks.{held_by_other, entered_in, left_in};
 
+use crate::running::{Here, Memory};
 use instructions::{Addr, Var};
+use turns::Answer;
 
 // By the held words: some word has the bit of o, and that of thread i has not. An object has one holder.
 fn held_by_other(held: &[u32; 8], i: usize, o: u8) -> bool
@@ -18,53 +22,35 @@ fn held_by_other(held: &[u32; 8], i: usize, o: u8) -> bool
     (all >> k) % 2 != (own >> k) % 2
 }
 
-// 3 where another thread holds the object, else 0; null throws object 0.
-pub(crate) fn enter(
-    frame: &mut [u64; 36],
-    counts: &mut [u16; 256],
-    held: &mut [u32; 8],
-    i: usize,
-    vars: u8,
-    v: Var,
-    h: Addr,
-    to: u16,
-) -> u8
-    requires { (i < 8) × (leb 4294967552 (var_in frame.old v.0) ≡ false → (object_in (var_in frame.old v.0) < 32) × (at counts.old (i * 32 + object_in (var_in frame.old v.0)) < 65535)) }
-    ensures { locked result frame.new counts.new held.new
-        ≡ entered_in frame.old counts.old held.old i vars v.0 h.0 to }
+// Taken where another thread holds the object; null throws object 0.
+pub(crate) fn enter(m: &mut Memory, here: Here, v: Var, h: Addr) -> Answer
+    requires { (here.thread < 8) × (leb 4294967552 (var_in (frame_of m.old.frames here.thread) v.0) ≡ false → (object_in (var_in (frame_of m.old.frames here.thread) v.0) < 32) × (at m.old.counts (here.thread * 32 + object_in (var_in (frame_of m.old.frames here.thread) v.0)) < 65535)) }
+    ensures { acted (answer_number result) m.new ≡ entered_in m.old here.thread here.vars v.0 h.0 here.next }
 {
-    let w = memory::var(frame, v);
+    let w = m.frames[here.thread].var(v);
     if memory::words::NULL <= w {
-        return memory::throw(frame, vars, h, memory::words::REF);
+        return m.throw(here, h, memory::words::REF);
     }
     let o = memory::words::object_in(w);
-    if held_by_other(held, i, o) {
-        return 3;
+    if held_by_other(&m.held, here.thread, o) {
+        return Answer::Taken;
     }
-    let k = i * 32 + o as usize;
-    let n = counts[k] + 1;
-    counts[k] = n;
-    held[i] = held::mark(held[i], o, n);
-    memory::go(frame, to);
-    0
+    let k = here.thread * 32 + o as usize;
+    let n = m.counts[k] + 1;
+    m.counts[k] = n;
+    m.held[here.thread] = held::mark(m.held[here.thread], o, n);
+    m.frames[here.thread].go(here.next);
+    Answer::WentOn
 }
 
-pub(crate) fn exit(
-    frame: &mut [u64; 36],
-    counts: &mut [u16; 256],
-    held: &mut [u32; 8],
-    i: usize,
-    v: Var,
-    to: u16,
-)
-    requires { (i < 8) × (object_in (var_in frame.old v.0) < 32) × (1 ≤ at counts.old (i * 32 + object_in (var_in frame.old v.0))) }
-    ensures { locked 0 frame.new counts.new held.new
-        ≡ left_in frame.old counts.old held.old i v.0 to }
+pub(crate) fn exit(m: &mut Memory, here: Here, v: Var)
+    requires { (here.thread < 8) × (object_in (var_in (frame_of m.old.frames here.thread) v.0) < 32) × (1 ≤ at m.old.counts (here.thread * 32 + object_in (var_in (frame_of m.old.frames here.thread) v.0))) }
+    ensures { m.new ≡ left_in m.old here.thread v.0 here.next }
 {
-    let o = memory::words::object_in(memory::var(frame, v));
-    let k = i * 32 + o as usize;
-    let n = counts[k] - 1;
-    counts[k] = n;
-    held[i] = held::mark(held[i], o, n);
-    memory::go(frame, to);
+    let o = memory::words::object_in(m.frames[here.thread].var(v));
+    let k = here.thread * 32 + o as usize;
+    let n = m.counts[k] - 1;
+    m.counts[k] = n;
+    m.held[here.thread] = held::mark(m.held[here.thread], o, n);
+    m.frames[here.thread].go(here.next);
 }

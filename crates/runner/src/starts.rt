@@ -1,32 +1,33 @@
 // start.
-ghost use Rattle.std.specs.Prelude.{◌≡◌, ◌<◌, ◌≤◌};
-ghost use Rattle.runner.specs.Starts.{begun, lowest_in, started_in};
+ghost use Rattle.std.specs.Prelude.{◌≡◌, ◌<◌, IfSome};
+ghost use Rattle.turns.specs.Numbers.{answer_number};
+ghost use Rattle.runner.specs.Memory.{acted};
+ghost use Rattle.runner.specs.Starts.{place_in, lowest_in, started_in};
 
-// The lowest thread number that is free, 8 where there is none.
-fn lowest(frames: &[[u64; 36]; 8]) -> usize
-    ensures { (result ≡ lowest_in frames.now) × (result ≤ 8) }
+use crate::running::{Here, Memory};
+use memory::Frame;
+use turns::Answer;
+
+// The lowest thread number that is free.
+fn lowest(frames: &[Frame; 8]) -> Option<usize>
+    ensures place { place_in result ≡ lowest_in frames.now }
+    ensures within { IfSome result (λ j. j < 8) }
 {
-    let mut j: usize = 0;
-    while j < 8 {
-        if !memory::live(&frames[j]) {
-            return j;
-        }
-        j += 1;
-    }
-    j
+    frames.iter().position(|frame| !frame.live)
 }
 
-// 4 where eight threads are live, else 0.
-pub(crate) fn start(frames: &mut [[u64; 36]; 8], i: usize, n: u8, c: u8, to: u16) -> u8
-    requires { (i < 8) × (n < 255) }
-    ensures { begun result frames.new ≡ started_in frames.old i n c to }
+// Crowded where eight threads are live.
+pub(crate) fn start(m: &mut Memory, here: Here, n: u8, c: u8) -> Answer
+    requires { (here.thread < 8) × (n < 255) }
+    ensures { acted (answer_number result) m.new ≡ started_in m.old here.thread n c here.next }
 {
-    let j = lowest(frames);
-    if 8 <= j {
-        return 4;
+    match lowest(&m.frames) {
+        None => Answer::Crowded,
+        Some(j) => {
+            let vars = m.frames[here.thread].arguments(n);
+            m.frames[j].begin(vars, c);
+            m.frames[here.thread].drop(n + 1, here.next);
+            Answer::WentOn
+        }
     }
-    let vars = memory::starts::arguments(&frames[i], n);
-    memory::starts::begin(&mut frames[j], vars, c);
-    memory::drop(&mut frames[i], n + 1, to);
-    0
 }

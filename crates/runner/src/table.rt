@@ -6,55 +6,50 @@ ghost use Rattle.bundle.specs.Program.{method_of};
 ghost use Rattle.memory.specs.Tab.{tab};
 ghost use Rattle.runner.specs.Table.{first_word, row_of};
 
-use bundle::Class;
+use bundle::Record;
 use instructions::{Code, Instruction};
 
-// `r` is the record of the class.
-fn first_word(k: Class, r: &[u8], j: u8) -> u64
-    ensures { result ≡ first_word (method_of k r.now) j }
-{
-    if k.fields <= j {
-        return 0;
-    }
-    if bundle::field_at(k, r, j) == 255 {
-        return 0;
-    }
-    memory::words::NULL
+// A class's arguments and variables, where its first instruction stands in the bundle, and what the fields of a new object hold.
+#[derive(Clone, Copy)]
+pub(crate) struct Row {
+    pub(crate) args: u8,
+    pub(crate) vars: u8,
+    pub(crate) code: usize,
+    pub(crate) first: [u64; 4],
 }
 
-fn code_place(k: Class) -> u64
-    ensures { result ≡ k.offset + (k.args + k.fields) }
+fn first_word(m: &Record, j: u8) -> u64
+    ensures { result ≡ first_word (method_of m.now.class m.now.bytes.now) j }
 {
-    k.offset as u64 + (k.args as u64 + k.fields as u64)
+    if j < m.class.fields && m.field_at(j) != 255 {
+        return memory::words::NULL;
+    }
+    0
 }
 
-fn row_of(b: &[u8], c: u8) -> [u64; 8]
+fn row_of(b: &[u8], c: u8) -> Row
     ensures { result ≡ row_of b.now c }
 {
-    let k = bundle::class_at(b, c);
-    let r = bundle::part_of(b, k);
-    [
-        k.args as u64,
-        k.vars as u64,
-        code_place(k),
-        0,
-        first_word(k, r, 0),
-        first_word(k, r, 1),
-        first_word(k, r, 2),
-        first_word(k, r, 3),
-    ]
+    let m = bundle::record_at(b, c);
+    Row {
+        args: m.class.args,
+        vars: m.class.vars,
+        code: m.class.offset as usize + (m.class.args as usize + m.class.fields as usize),
+        first: [
+            first_word(&m, 0),
+            first_word(&m, 1),
+            first_word(&m, 2),
+            first_word(&m, 3),
+        ],
+    }
 }
 
-pub(crate) fn table_of(b: &[u8]) -> [[u64; 8]; 8]
+pub(crate) fn table_of(b: &[u8]) -> [Row; 8]
     ensures { result ≡ tab 8 (row_of b.now) }
 {
-    let mut next = [[0u64; 8]; 8];
-    let mut c: u8 = 0;
-    while c < 8 {
-        let row = row_of(b, c);
-        let k = c as usize;
-        next[k] = row;
-        c += 1;
+    let mut next = [row_of(b, 0); 8];
+    for c in 1..8u8 {
+        next[c as usize] = row_of(b, c);
     }
     next
 }

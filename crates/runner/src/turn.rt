@@ -1,126 +1,94 @@
 // One step of a thread, in place.
-ghost use Rattle.std.specs.Prelude.{◌%◌, leb};
-ghost use Rattle.runner.specs.Memory.{memory};
-ghost use Rattle.runner.specs.Poised.{Running, Poised, Turned};
+ghost use Rattle.std.specs.Prelude.{◌≡◌, ◌%◌, leb};
+ghost use Rattle.turns.specs.Numbers.{answer_number};
+ghost use Rattle.runner.specs.Poised.{here_of, instruction_here, Running, Poised, Turned};
 
+use crate::running::{Here, Memory};
+use crate::table::Row;
 use crate::{fields, locks, objects, starts, table};
 use instructions::Instruction;
+use turns::Answer;
 
-// The instruction of a live thread. What a fault would test is known here.
-fn exec(
-    b: &[u8],
-    table: &[[u64; 8]; 8],
-    frames: &mut [[u64; 36]; 8],
-    counts: &mut [u16; 256],
-    held: &mut [u32; 8],
-    objects: &mut u8,
-    classes: &mut [u8; 32],
-    fields: &mut [u64; 128],
-    i: usize,
-    fails: bool,
-) -> u8
-    requires { Poised b.now table.now (memory frames.old counts.old held.old objects.old classes.old fields.old) i }
-    ensures { Turned b.now
-        (memory frames.old counts.old held.old objects.old classes.old fields.old)
-        (memory frames.new counts.new held.new objects.new classes.new fields.new) result i fails }
+// Where a live thread takes its step, and the instruction there.
+fn stand(b: &[u8], table: &[Row; 8], m: &Memory, i: usize) -> (Here, Instruction)
+    requires { Poised b.now table.now m.now i }
+    ensures here { result.0 ≡ here_of b.now m.now i }
+    ensures instruction { result.1 ≡ instruction_here b.now m.now i }
 {
-    let q = memory::class(&frames[i]) as usize;
-    let at = memory::address(&frames[i]);
-    let vars = table[q][1] as u8;
-    let to = at + 1;
-    let x = table::instruction_from(b, table[q][2] as usize + 4 * (at as usize - 1));
+    let q = m.frames[i].class as usize;
+    let at = m.frames[i].at;
+    let here = Here {
+        thread: i,
+        vars: table[q].vars,
+        next: at + 1,
+    };
+    (
+        here,
+        table::instruction_from(b, table[q].code + 4 * (at as usize - 1)),
+    )
+}
+
+// What a fault would test is known here.
+fn exec(b: &[u8], table: &[Row; 8], m: &mut Memory, i: usize, fails: bool) -> Answer
+    requires { Poised b.now table.now m.old i }
+    ensures { Turned b.now m.old m.new (answer_number result) i fails }
+{
+    let (here, x) = stand(b, table, m, i);
     match x {
         Instruction::Inc => {
-            memory::inc(&mut frames[i], to);
-            0
+            m.frames[i].inc(here.next);
+            Answer::WentOn
         }
         Instruction::Pop => {
-            memory::pop(&mut frames[i], to);
-            0
+            m.frames[i].pop(here.next);
+            Answer::WentOn
         }
         Instruction::Push0 => {
-            memory::push(&mut frames[i], 0, to);
-            0
+            m.frames[i].push(0, here.next);
+            Answer::WentOn
         }
         Instruction::Load(v) => {
-            memory::load(&mut frames[i], v, to);
-            0
+            m.frames[i].load(v, here.next);
+            Answer::WentOn
         }
         Instruction::Store(v) => {
-            memory::store(&mut frames[i], v, to);
-            0
+            m.frames[i].store(v, here.next);
+            Answer::WentOn
         }
         Instruction::If(a) => {
-            memory::branch(&mut frames[i], a, to);
-            0
+            m.frames[i].branch(a, here.next);
+            Answer::WentOn
         }
-        Instruction::Enter(v, h) => locks::enter(&mut frames[i], counts, held, i, vars, v, h, to),
+        Instruction::Enter(v, h) => locks::enter(m, here, v, h),
         Instruction::Exit(v) => {
-            locks::exit(&mut frames[i], counts, held, i, v, to);
-            0
+            locks::exit(m, here, v);
+            Answer::WentOn
         }
-        Instruction::New(c, h) => objects::new(
-            table,
-            &mut frames[i],
-            objects,
-            classes,
-            fields,
-            vars,
-            fails,
-            c,
-            h,
-            to,
-        ),
-        Instruction::Start(c) => {
-            let k = c as usize;
-            starts::start(frames, i, table[k][0] as u8, c, to)
-        }
+        Instruction::New(c, h) => objects::new(m, here, fails, c, &table[c as usize].first, h),
+        Instruction::Start(c) => starts::start(m, here, table[c as usize].args, c),
         Instruction::Throw(h) => {
-            let w = memory::top(&frames[i]);
-            memory::throw(&mut frames[i], vars, h, w)
+            let w = m.frames[i].top();
+            m.throw(here, h, w)
         }
         Instruction::Return => {
-            memory::end(&mut frames[i], vars);
-            1
+            m.frames[i].end(here.vars);
+            Answer::Returned
         }
-        Instruction::Get(_, f, h) => fields::get(&mut frames[i], fields, vars, f, h, to),
-        Instruction::Put(_, f, h) => fields::put(&mut frames[i], fields, vars, f, h, to),
+        Instruction::Get(_, f, h) => fields::get(m, here, f, h),
+        Instruction::Put(_, f, h) => fields::put(m, here, f, h),
         // Never met: verdict 7 refuses it.
-        Instruction::Nothing => 0,
+        Instruction::Nothing => Answer::WentOn,
     }
 }
 
 // The step that a schedule byte asks for.
-pub(crate) fn turn(
-    b: &[u8],
-    table: &[[u64; 8]; 8],
-    frames: &mut [[u64; 36]; 8],
-    counts: &mut [u16; 256],
-    held: &mut [u32; 8],
-    objects: &mut u8,
-    classes: &mut [u8; 32],
-    fields: &mut [u64; 128],
-    x: u8,
-) -> u8
-    requires { Running b.now table.now (memory frames.old counts.old held.old objects.old classes.old fields.old) }
-    ensures { Turned b.now
-        (memory frames.old counts.old held.old objects.old classes.old fields.old)
-        (memory frames.new counts.new held.new objects.new classes.new fields.new) result (x % 8) (leb 128 x) }
+pub(crate) fn turn(b: &[u8], table: &[Row; 8], m: &mut Memory, x: u8) -> Answer
+    requires { Running b.now table.now m.old }
+    ensures { Turned b.now m.old m.new (answer_number result) (x % 8) (leb 128 x) }
 {
     let i = (x % 8) as usize;
-    if !memory::live(&frames[i]) {
-        return 5;
+    if !m.frames[i].live {
+        return Answer::NotLive;
     }
-    exec(
-        b,
-        table,
-        frames,
-        counts,
-        held,
-        objects,
-        classes,
-        fields,
-        i,
-        128 <= x,
-    )
+    exec(b, table, m, i, 128 <= x)
 }

@@ -10,12 +10,10 @@ use lib.Arith.{digits_div}
 use borrow.Author.Tests.{eqb-true}
 use Rattle.ground.specs.Bytes.{at, quad}
 use Rattle.ground.specs.Chain.{refuse}
-use Rattle.bundle.specs.declared.Class.{Class}
-use Rattle.entries.specs.Entries.{Blank, zeros, entry_of, is_type, is_blank}
+use Rattle.entries.specs.Entries.{Blank, zeros, entry_of}
 use Rattle.entries.specs.Words.{entry_from}
 use Rattle.entries.proofs.Words.{word_bytes}
-use Rattle.rows.specs.Words.{variable_word, stack_word, entry_word}
-use Rattle.shape.specs.Shape.{aside, entry_aside, variable_aside, stack_aside}
+use Rattle.shape.specs.Shape.{aside, entry_aside}
 use Rattle.shape.specs.Loops.{aside_word}
 
 module _ (n a c d e : ℕ) (la : a < 256) (lc : c < 256) (ld : d < 256) (le : e < 256) where
@@ -42,7 +40,8 @@ unfolding aside_word entry_from entry_of zeros refuse
 blank n = refl
 
 module _ (n : ℕ) (r : List ℕ) (bytes : (i : ℕ) → at r i < 256) where
-  entry-aside : (p : ℕ) → entry_from n (aside_word (quad r p)) ≡ entry_aside n r p
+  -- THEOREM: what is read is the entry at p, pair bytes aside
+  pub entry-aside : (p : ℕ) → entry_from n (aside_word (quad r p)) ≡ entry_aside n r p
   unfolding quad entry_aside refuse
   entry-aside p = let q : p + 2 + 1 ≡ p + 3 = omega arith in rw q (either (ltb (p + 3) (length r)))
     where
@@ -50,28 +49,3 @@ module _ (n : ℕ) (r : List ℕ) (bytes : (i : ℕ) → at r i < 256) where
           ≡ cond t (aside n (at r p) (at r (p + 1)) (at r (p + 2)) (at r (p + 3))) Blank
       either true = aside-word n _ _ _ _ (bytes p) (bytes (p + 1)) (bytes (p + 2)) (bytes (p + 3))
       either false = blank n
-
-  -- THEOREM: what is read is the entry of variable i, pair bytes aside
-  variable-aside : (s i : ℕ) → entry_from n (aside_word (variable_word r s i)) ≡ variable_aside n r s i
-  unfolding variable_aside variable_word
-  variable-aside s i = entry-aside _
-
-  -- THEOREM: .. and the stack entry j
-  stack-aside : (k : Class) (s j : ℕ) → entry_from n (aside_word (entry_word k r s j)) ≡ stack_aside n k r s j
-  unfolding stack_aside entry_word stack_word refuse
-  stack-aside k s j = either (ltb j k.limit)
-    where
-      either : (t : Bool) → entry_from n (aside_word (cond t (quad r (s + 4 * k.vars + 1 + 4 * j)) 0)) ≡ cond t (entry_aside n r (s + 4 * k.vars + 1 + 4 * j)) Blank
-      either true = entry-aside _
-      either false = blank n
-
-  -- the code's tests of what it read: w, and w' with its pair bytes aside
-  module _ (w w' : ℕ) {o : Bool} (e : w' ≡ aside_word w) where
-    pub variable-typed : (s i : ℕ) → w ≡ variable_word r s i → o ≡ is_type (entry_from n w') → o ≡ is_type (variable_aside n r s i)
-    variable-typed s i q h = rw (← variable-aside s i, ← q, ← e) h
-
-    pub stack-typed : (k : Class) (s j : ℕ) → w ≡ entry_word k r s j → o ≡ is_type (entry_from n w') → o ≡ is_type (stack_aside n k r s j)
-    stack-typed k s j q h = rw (← stack-aside k s j, ← q, ← e) h
-
-    pub stack-blank : (k : Class) (s j : ℕ) → w ≡ entry_word k r s j → o ≡ is_blank (entry_from n w') → o ≡ is_blank (stack_aside n k r s j)
-    stack-blank k s j q h = rw (← stack-aside k s j, ← q, ← e) h

@@ -1,6 +1,6 @@
 -- `shape_verdict` judges the places of 1 to 8, pair bytes aside; and the code's searches are of parts of their list.
 use mathlib.Core.List.{List, [], ◌∷◌, map}
-use mathlib.Core.Path.{◌≡◌, refl, sym, ap, ◌∙◌}
+use mathlib.Core.Path.{◌≡◌, refl, ap, ◌∙◌}
 use mathlib.Core.Logic.{⊎_elim}
 use mathlib.Core.Bool.{true, false}
 use Prim.Native.Nat.{ℕ, ◌+◌, ◌-◌, ◌<◌}
@@ -12,8 +12,8 @@ use Rattle.ground.specs.Lists.{each, In, first_broken}
 use Rattle.ground.proofs.Lists.{in-append, in_left, in_right, in-each, each_in, in-numbered, numbered-in, in_map, map-in, first-append, first-map}
 use Rattle.bundle.specs.Container.{classes, class_at, part_of}
 use Rattle.bundle.specs.Program.{method_of, method_at, program_of}
-use Rattle.structure.specs.declared.Verdict.{Verdict}
-use Rattle.structure.specs.Verdicts.{verdict, is_bad}
+use Rattle.verdicts.specs.declared.Verdict.{Verdict}
+use Rattle.verdicts.specs.Verdicts.{verdict, is_bad}
 use Rattle.structure.specs.Loops.{and_then, ascending}
 use Rattle.structure.specs.Structure.{structure_of}
 use Rattle.structure.specs.Places.{structure_places}
@@ -77,12 +77,15 @@ module _ (b : List ℕ) where
       accepted : Verdict
       accepted = verdict 0 (classes b) 0
 
-  pub by-class : (f : ℕ → List Place) → ascending (classes b) (λ c. searched b (f c)) ≡ searched b (each (classes b) f)
-  by-class f = sym (search-each (shape_holds b) (drawn b) (bad b) (classes b) f)
+  pub by-class : (f : ℕ → List Place) → searched b (each (classes b) f) ≡ ascending (classes b) (λ c. searched b (f c))
+  by-class f = search-each (shape_holds b) (drawn b) (bad b) (classes b) f
 
-  pub form-parts : (c : ℕ) → shaped_of (classes b) c (class_at b c) (part_of b (class_at b c)) ≡ searched b (form_places b c)
+  pub form-parts : (c : ℕ) → searched b (form_places b c) ≡ shaped_of (classes b) c (class_at b c) (part_of b (class_at b c))
   unfolding shaped_at first_broken program_of method_at method_of
-  form-parts c = sym (search-each (shape_holds b) (drawn b) (bad b) (class_at b c).code (λ i. form c (i + 1) ∷ []))
+  form-parts c = search-each (shape_holds b) (drawn b) (bad b) (class_at b c).code (λ i. form c (i + 1) ∷ [])
+
+-- what the code searches, as its parts
+pub ruleset searching = (shape-parts, by-class, form-parts)
 
 -- 1 to 7 are the verifier's
 pub shape-agrees : ShapeAgrees

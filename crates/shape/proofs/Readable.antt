@@ -18,7 +18,7 @@ use Rattle.ground.proofs.Chain.{then-elim, went_on_lem}
 use Rattle.bundle.specs.declared.Class.{Class}
 use Rattle.bundle.specs.Container.{directory_at, classes, class_at, descriptor_count, size, record_fits, part_of}
 use Rattle.bundle.specs.Program.{program_of, method_at, method_of}
-use Rattle.structure.specs.Verdicts.{is_bad}
+use Rattle.verdicts.specs.Verdicts.{is_bad}
 use Rattle.structure.specs.Structure.{structure_of}
 use Rattle.structure.specs.Conditions.{directory_ok}
 use Rattle.structure.specs.Places.{directory}

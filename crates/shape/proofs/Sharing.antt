@@ -10,7 +10,7 @@ use borrow.Author.Tests.{leb-false}
 use Rattle.ground.proofs.Bools.{or-false-fst, or-false-snd}
 use Rattle.ground.proofs.Bounded.{all-some}
 use Rattle.bundle.specs.Container.{classes, class_at, size}
-use Rattle.structure.specs.Verdicts.{is_bad}
+use Rattle.verdicts.specs.Verdicts.{is_bad}
 use Rattle.structure.proofs.Structured.{class-limits}
 use Rattle.shape.specs.Shape.{shape_verdict}
 use Rattle.shape.specs.Apart.{apart, apart_from, lower_apart, directory_apart, class_apart, all_apart}

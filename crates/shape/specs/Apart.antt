@@ -3,7 +3,7 @@ use Rattle.std.specs.Prelude.{List, ◌≡◌, Bool, true, false, ◌&&◌, ◌|
 use Rattle.ground.specs.Bounded.{all_below}
 use Rattle.bundle.specs.declared.Class.{Class}
 use Rattle.bundle.specs.Container.{directory_at, classes, class_at, size}
-use Rattle.structure.specs.Verdicts.{is_bad}
+use Rattle.verdicts.specs.Verdicts.{is_bad}
 use Rattle.shape.specs.Shape.{shape_verdict}
 
 -- the m bytes from a on and the n bytes from e on have none in common (neither is empty)

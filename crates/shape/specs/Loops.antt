@@ -3,8 +3,8 @@ use Rattle.std.specs.Prelude.{List, cond, ℕ, ◌+◌, ◌*◌, ◌/◌, eqb}
 use Rattle.ground.specs.Chain.{refuse}
 use Rattle.ground.specs.Lists.{first_broken}
 use Rattle.bundle.specs.declared.Class.{Class}
-use Rattle.structure.specs.declared.Verdict.{Verdict}
-use Rattle.structure.specs.Verdicts.{verdict, pass}
+use Rattle.verdicts.specs.declared.Verdict.{Verdict}
+use Rattle.verdicts.specs.Verdicts.{verdict, pass}
 use Rattle.structure.specs.Loops.{ascending}
 use Rattle.rows.specs.Rows.{row_start}
 use Rattle.forms.specs.Forms.{row_formed}

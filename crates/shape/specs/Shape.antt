@@ -6,8 +6,8 @@ use Rattle.ground.specs.Lists.{each, first_broken}
 use Rattle.bundle.specs.declared.Class.{Class}
 use Rattle.bundle.specs.Container.{classes, class_at, part_of}
 use Rattle.bundle.specs.Program.{Address, program_of}
-use Rattle.structure.specs.declared.Verdict.{Verdict}
-use Rattle.structure.specs.Verdicts.{verdict, is_bad, Judges}
+use Rattle.verdicts.specs.declared.Verdict.{Verdict}
+use Rattle.verdicts.specs.Verdicts.{verdict, is_bad, Judges}
 use Rattle.structure.specs.Structure.{structure_of}
 use Rattle.structure.specs.Places as structure
 use Rattle.entries.specs.Entries.{Entry, Blank, min_end, entry_of}

@@ -1,7 +1,7 @@
 -- Document 02, Q-5, refusal 23 in the request's words: a record shares a byte with another or with the directory. That the test `all_apart` says exactly this is `shared-exactly`.
 use Rattle.std.specs.Prelude.{List, ◌≡◌, false, ℕ, ◌+◌, ◌*◌, ◌≤◌, ◌<◌}
 use Rattle.bundle.specs.Container.{directory_at, classes, class_at, size}
-use Rattle.structure.specs.Verdicts.{is_bad}
+use Rattle.verdicts.specs.Verdicts.{is_bad}
 use Rattle.shape.specs.Shape.{shape_verdict}
 use Rattle.shape.specs.Apart.{all_apart}
 

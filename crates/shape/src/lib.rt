@@ -1,20 +1,23 @@
 // Whether a bundle's pairs can be worked out at all: refusals 1 to 8, pair bytes aside, and 23, bytes in common.
 #![tactic(auto)]
 
-ghost use Rattle.std.specs.Prelude.{◌≡◌, ◌<◌};
+ghost use Rattle.std.specs.Prelude.{◌≡◌, ℕ, ◌<◌};
 ghost use Rattle.ground.specs.Lists.{each};
 ghost use Rattle.bundle.specs.Container.{classes};
 ghost use Rattle.verifier.specs.Places.{form_places};
 ghost use Rattle.rows.specs.Rows.{depth_at};
 ghost use Rattle.forms.specs.Forms.{var_formed, entry_formed, vars_formed, stack_formed, row_formed};
-ghost use Rattle.shape.specs.Shape.{row_aside, shape_verdict};
+ghost use Rattle.verdicts.specs.Numbers.{found, judgement};
+ghost use Rattle.entries.specs.Words.{entry_from};
+ghost use Rattle.shape.specs.Shape.{entry_aside, row_aside, shape_verdict};
 ghost use Rattle.shape.specs.Apart.{apart, apart_from, lower_apart, directory_apart, class_apart, all_apart};
 ghost use Rattle.shape.specs.Loops.{aside_word, searched, shaped_at, shaped_of};
 
-use bundle::Class;
+use bundle::{Class, Record};
 use instructions::Addr;
-use structure::Verdict;
+use verdicts::Refusal;
 
+#[tactic(auto, using(ground::proofs::Tests::tests), unfolding(crate::specs::Loops::aside_word))]
 fn aside(w: u32) -> u32
     ensures { result ≡ aside_word w }
 {
@@ -24,18 +27,27 @@ fn aside(w: u32) -> u32
     w
 }
 
-fn var_shaped(n: u8, k: Class, r: &[u8], p: u32, i: u8) -> bool
-    ensures { result ≡ var_formed (row_aside n k r.now p) i }
+// The four bytes of an entry, which begins at s, pair bytes aside.
+fn word_aside(r: &[u8], s: usize) -> u32
+    ensures { (n : ℕ) → entry_from n result ≡ entry_aside n r.now s }
 {
-    entries::is_type(n, aside(rows::variable_word(n, k, r, p, i)))
+    aside(ground::quad(r, s))
 }
 
-fn vars_shaped(n: u8, k: Class, r: &[u8], p: u32) -> bool
-    ensures { result ≡ vars_formed k.vars (row_aside n k r.now p) }
+#[tactic(auto, unfolding(crate::specs::Shape::variable_aside))]
+fn var_shaped(m: &Record, p: u32, i: u8) -> bool
+    ensures { result ≡ var_formed (row_aside m.now.classes m.now.class m.now.bytes.now p) i }
 {
-    let vars = k.vars;
-    for i in 0..vars {
-        if !var_shaped(n, k, r, p, i) {
+    let w = word_aside(m.bytes, p as usize + 4 * (i as usize));
+    entries::is_type(m.classes, w)
+}
+
+#[tactic(auto, using(ground::proofs::Bounded::every), unfolding(forms::specs::Forms::vars_formed))]
+fn vars_shaped(m: &Record, p: u32) -> bool
+    ensures { result ≡ vars_formed m.now.class.vars (row_aside m.now.classes m.now.class m.now.bytes.now p) }
+{
+    for i in 0..m.class.vars {
+        if !var_shaped(m, p, i) {
             return false;
         }
     }
@@ -43,125 +55,94 @@ fn vars_shaped(n: u8, k: Class, r: &[u8], p: u32) -> bool
 }
 
 // d is the row's depth.
-fn entry_shaped(n: u8, k: Class, r: &[u8], p: u32, d: u8, j: u8) -> bool
-    requires { d ≡ depth_at r.now p k.vars }
-    ensures { result ≡ entry_formed (row_aside n k r.now p) j }
+#[tactic(auto, using(ground::proofs::Tests::tests), unfolding(forms::specs::Forms::entry_formed, crate::specs::Shape::stack_aside, ground::specs::Chain::refuse))]
+fn entry_shaped(m: &Record, p: u32, d: u8, j: u8) -> bool
+    requires { (d ≡ depth_at m.now.bytes.now p m.now.class.vars) × (j < m.now.class.limit) }
+    ensures { result ≡ entry_formed (row_aside m.now.classes m.now.class m.now.bytes.now p) j }
 {
-    let w = aside(rows::stack_word(n, k, r, p, j));
+    let stack = p as usize + 4 * (m.class.vars as usize) + 1;
+    let w = word_aside(m.bytes, stack + 4 * (j as usize));
     if j < d {
-        return entries::is_type(n, w);
+        return entries::is_type(m.classes, w);
     }
-    entries::is_blank(n, w)
+    entries::is_blank(m.classes, w)
 }
 
-fn stack_shaped(n: u8, k: Class, r: &[u8], p: u32) -> bool
-    ensures { result ≡ stack_formed k.limit (row_aside n k r.now p) }
+#[tactic(auto, using(ground::proofs::Bounded::every), unfolding(forms::specs::Forms::stack_formed))]
+fn stack_shaped(m: &Record, p: u32) -> bool
+    ensures { result ≡ stack_formed m.now.class.limit (row_aside m.now.classes m.now.class m.now.bytes.now p) }
 {
-    let d = rows::depth_at(k, r, p);
-    let limit = k.limit;
-    for j in 0..limit {
-        if !entry_shaped(n, k, r, p, d, j) {
+    let d = rows::depth_at(m, p);
+    for j in 0..m.class.limit {
+        if !entry_shaped(m, p, d, j) {
             return false;
         }
     }
     true
 }
 
-fn row_shaped(n: u8, k: Class, r: &[u8], p: u32) -> bool
-    ensures { result ≡ row_formed k.vars k.limit (row_aside n k r.now p) }
+#[tactic(auto, using(ground::proofs::Tests::tests), unfolding(forms::specs::Forms::row_formed))]
+fn row_shaped(m: &Record, p: u32) -> bool
+    ensures { result ≡ row_formed m.now.class.vars m.now.class.limit (row_aside m.now.classes m.now.class m.now.bytes.now p) }
 {
-    if k.limit < rows::depth_at(k, r, p) {
+    if m.class.limit < rows::depth_at(m, p) {
         return false;
     }
-    if !vars_shaped(n, k, r, p) {
+    if !vars_shaped(m, p) {
         return false;
     }
-    stack_shaped(n, k, r, p)
+    stack_shaped(m, p)
 }
 
-fn shaped_at(n: u8, c: u8, k: Class, r: &[u8], i: u16) -> Verdict
+#[tactic(auto, unfolding(crate::specs::Loops::shaped_at, ground::specs::Chain::refuse))]
+fn shaped_at(c: u8, m: &Record, i: u16) -> Result<(), Refusal>
     requires { i < 65535 }
-    ensures { result ≡ shaped_at n c k r.now i }
+    ensures { found result ≡ shaped_at m.now.classes c m.now.class m.now.bytes.now i }
 {
-    if !row_shaped(n, k, r, rows::row_start(k, Addr(i + 1))) {
-        return Verdict {
-            number: 8,
-            class: c,
-            address: i + 1,
-            why: 0,
-        };
+    if !row_shaped(m, rows::row_start(m.class, Addr(i + 1))) {
+        return Err(Refusal::Form(c, Addr(i + 1)));
     }
-    Verdict {
-        number: 0,
-        class: 0,
-        address: 0,
-        why: 0,
-    }
+    Ok(())
 }
 
-fn shaped_of(n: u8, c: u8, k: Class, r: &[u8]) -> Verdict
-    ensures { result ≡ shaped_of n c k r.now }
+#[tactic(auto, using(verdicts::proofs::Numbers::searching))]
+fn shaped_of(c: u8, m: &Record) -> Result<(), Refusal>
+    ensures { found result ≡ shaped_of m.now.classes c m.now.class m.now.bytes.now }
 {
-    let code = k.code;
-    for i in 0..code {
-        let v = shaped_at(n, c, k, r, i);
-        if v.number != 0 {
-            return v;
-        }
+    for i in 0..m.class.code {
+        shaped_at(c, m, i)?;
     }
-    Verdict {
-        number: 0,
-        class: 0,
-        address: 0,
-        why: 0,
-    }
+    Ok(())
 }
 
-fn shaped_of_class(b: &[u8], c: u8) -> Verdict
-    ensures { result ≡ searched b.now (form_places b.now c) }
+#[tactic(auto, using(crate::proofs::FirstBroken::searching))]
+fn shaped_of_class(b: &[u8], c: u8) -> Result<(), Refusal>
+    ensures { found result ≡ searched b.now (form_places b.now c) }
 {
-    let k = bundle::class_at(b, c);
-    shaped_of(bundle::classes(b), c, k, bundle::part_of(b, k))
+    shaped_of(c, &bundle::record_at(b, c))
 }
 
-fn shaped_of_all(b: &[u8]) -> Verdict
-    ensures { result ≡ searched b.now (each (classes b.now) (form_places b.now)) }
+#[tactic(auto, using(verdicts::proofs::Numbers::searching))]
+fn shaped_of_all(b: &[u8]) -> Result<(), Refusal>
+    ensures { found result ≡ searched b.now (each (classes b.now) (form_places b.now)) }
 {
-    let n = bundle::classes(b);
-    for c in 0..n {
-        let v = shaped_of_class(b, c);
-        if v.number != 0 {
-            return v;
-        }
+    for c in 0..bundle::classes(b) {
+        shaped_of_class(b, c)?;
     }
-    Verdict {
-        number: 0,
-        class: 0,
-        address: 0,
-        why: 0,
-    }
+    Ok(())
 }
 
 // 1 to 8, pair bytes aside.
-pub fn shape(b: &[u8]) -> Verdict
-    ensures { result ≡ shape_verdict b.now }
+#[tactic(auto, using(verdicts::proofs::Numbers::searching, crate::proofs::FirstBroken::searching))]
+pub fn shape(b: &[u8]) -> Result<u8, Refusal>
+    ensures { judgement result ≡ shape_verdict b.now }
 {
-    let u = structure::structure(b);
-    if u.number != 0 {
-        return u;
-    }
-    let v = shaped_of_all(b);
-    if v.number != 0 {
-        return v;
-    }
-    Verdict {
-        number: 0,
-        class: bundle::classes(b),
-        address: 0,
-        why: 0,
-    }
+    structure::structure(b)?;
+    shaped_of_all(b)?;
+    Ok(bundle::classes(b))
 }
 
+#[tactic(auto, unfolding(crate::specs::Apart::apart))]
 fn apart(a: u16, m: usize, e: u16, n: usize) -> bool
     requires { (m < 268435456) × (n < 268435456) }
     ensures { result ≡ apart a m e n }
@@ -169,6 +150,7 @@ fn apart(a: u16, m: usize, e: u16, n: usize) -> bool
     (a as usize + m <= e as usize) | (e as usize + n <= a as usize)
 }
 
+#[tactic(auto, unfolding(crate::specs::Apart::apart_from))]
 fn apart_from(b: &[u8], k: Class, d: u8) -> bool
     ensures { result ≡ apart_from b.now k d }
 {
@@ -176,6 +158,7 @@ fn apart_from(b: &[u8], k: Class, d: u8) -> bool
     apart(k.offset, bundle::size(k), j.offset, bundle::size(j))
 }
 
+#[tactic(auto, using(ground::proofs::Bounded::every), unfolding(crate::specs::Apart::lower_apart))]
 fn lower_apart(b: &[u8], k: Class, c: u8) -> bool
     ensures { result ≡ lower_apart b.now k c }
 {
@@ -187,6 +170,7 @@ fn lower_apart(b: &[u8], k: Class, c: u8) -> bool
     true
 }
 
+#[tactic(auto, unfolding(crate::specs::Apart::directory_apart))]
 fn directory_apart(b: &[u8], k: Class) -> bool
     ensures { result ≡ directory_apart b.now k }
 {
@@ -198,6 +182,7 @@ fn directory_apart(b: &[u8], k: Class) -> bool
     )
 }
 
+#[tactic(auto, unfolding(crate::specs::Apart::class_apart))]
 fn class_apart(b: &[u8], c: u8) -> bool
     ensures { result ≡ class_apart b.now c }
 {
@@ -209,11 +194,11 @@ fn class_apart(b: &[u8], c: u8) -> bool
 }
 
 // 23: no record shares a byte with another or with the directory.
+#[tactic(auto, using(ground::proofs::Bounded::every), unfolding(crate::specs::Apart::all_apart))]
 pub fn all_apart(b: &[u8]) -> bool
     ensures { result ≡ all_apart b.now }
 {
-    let n = bundle::classes(b);
-    for c in 0..n {
+    for c in 0..bundle::classes(b) {
         if !class_apart(b, c) {
             return false;
         }

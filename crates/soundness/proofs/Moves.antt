@@ -17,7 +17,7 @@ use Rattle.threads.specs.declared.Thread.{Thread}
 use Rattle.threads.specs.Threads.{idle}
 use Rattle.state.specs.declared.State.{State}
 use Rattle.state.specs.State.{thread_at, count_of, class_of, field_of, with_thread, with_count, with_field, fields_with, with_object}
-use Rattle.turns.specs.declared.Stepped.{Stepped}
+use Rattle.turns.specs.Stepped.{Stepped}
 use Rattle.turns.specs.Answers.{refused}
 use Rattle.turns.specs.Moves.{first_fields}
 use Rattle.machine.proofs.Changes.{Sized, counted-sized, words-written, grown}

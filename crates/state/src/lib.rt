@@ -2,12 +2,13 @@
 #![tactic(auto)]
 
 ghost use Rattle.std.specs.Prelude.{◌≡◌};
+ghost use Rattle.ground.specs.Bounded.{Told};
 ghost use Rattle.state.specs.State.{thread_at, count_of, with_thread, field_of, with_field, with_object, empty_state, free_of, others_free, is_free, holds_nothing, lowest_free};
 
 use threads::Thread;
 use values::Slot;
 
-#[derive(Clone, Copy)]
+#[derive(Clone, Copy, PartialEq, Eq)]
 pub struct State {
     pub threads: [Thread; 8],
     pub counts: [u16; 256],
@@ -113,12 +114,10 @@ fn free_of(counts: &[u16], i: u8, o: u8, j: u8) -> bool
 pub fn others_free(counts: &[u16], i: u8, o: u8) -> bool
     ensures { result ≡ others_free counts.now i o }
 {
-    let mut j: u8 = 0;
-    while j < 8 {
+    for j in 0..8 {
         if !free_of(counts, i, o, j) {
             return false;
         }
-        j += 1;
     }
     true
 }
@@ -132,27 +131,22 @@ fn is_free(counts: &[u16], i: u8, o: u8) -> bool
 pub fn holds_nothing(counts: &[u16], i: u8) -> bool
     ensures { result ≡ holds_nothing counts.now i }
 {
-    let mut o: u8 = 0;
-    while o < 32 {
+    for o in 0..32 {
         if !is_free(counts, i, o) {
             return false;
         }
-        o += 1;
     }
     true
 }
 
 // Asked of the threads alone, so that the state is not copied.
-pub fn lowest_free(threads: [Thread; 8]) -> u8
-    ensures { (s : State) → s.threads ≡ threads → result ≡ lowest_free s }
+pub fn lowest_free(threads: [Thread; 8]) -> Option<u8>
+    ensures { (s : State) → s.threads ≡ threads → Told 8 (lowest_free s) result }
 {
-    let mut i: u8 = 0;
-    while i < 8 {
-        let k = i as usize;
-        if !threads[k].live {
-            return i;
+    for i in 0..8u8 {
+        if !threads[i as usize].live {
+            return Some(i);
         }
-        i += 1;
     }
-    i
+    None
 }

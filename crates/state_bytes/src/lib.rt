@@ -1,11 +1,10 @@
 // A state of the machine as bytes, in the format of hveitmar_trace: 2,537 bytes.
 #![tactic(auto)]
 
-ghost use Rattle.std.specs.Prelude.{◌≡◌, ◌<◌, ◌≤◌, replicate};
+ghost use Rattle.std.specs.Prelude.{◌≡◌, List, ℕ, ◌+◌, ◌*◌, ◌<◌, ◌≤◌, replicate};
+ghost use Rattle.ground.specs.Bytes.{at, be16, quad};
 ghost use Rattle.ground.specs.Bounded.{all_below, set_below};
-ghost use Rattle.values.specs.Values.{zero_slot};
-ghost use Rattle.threads.specs.Threads.{idle};
-ghost use Rattle.state_bytes.specs.Format.{is_place, is_place_at, is_thread, is_state, place_of, place_at, thread_of, threads_at, count_at, class_at, word_at, state_of};
+ghost use Rattle.state_bytes.specs.Format.{is_place, is_place_at, is_thread, is_state, place_of, thread_of, state_of};
 
 use instructions::Addr;
 use state::State;
@@ -50,12 +49,10 @@ fn are_places(g: &[u8], p: usize, n: usize) -> bool
     requires { (p < 2000) × (n ≤ 128) }
     ensures { result ≡ all_below n (is_place_at g.now p) }
 {
-    let mut i: usize = 0;
-    while i < n {
+    for i in 0..n {
         if !is_place(g, p + i * PLACE) {
             return false;
         }
-        i += 1;
     }
     true
 }
@@ -79,124 +76,114 @@ pub fn is_state(g: &[u8]) -> bool
     if !are_places(g, FIELDS, 128) {
         return false;
     }
-    let mut i: usize = 0;
-    while i < 8 {
+    for i in 0..8usize {
         if !is_thread(g, i * THREAD) {
             return false;
         }
-        i += 1;
     }
     true
 }
 
-fn place(g: &[u8], p: usize) -> Slot
-    requires { p < 4000 }
-    ensures { result ≡ place_of g.now p }
-{
-    let kind = ground::byte(g, p);
-    if kind == 1 {
-        return values::ref_slot(ground::byte(g, p + 4));
-    }
-    if kind == 2 {
-        return values::null_slot();
-    }
-    values::int_slot(ground::quad(g, p + 1))
+// What a part of a state is made of, as it is read at a place of the bytes.
+trait Stands: Sized {
+    ghost WIDTH: { ℕ };
+
+    const WIDTH: usize;
+
+    ghost read_of: { List ℕ → ℕ → Self };
+
+    fn read(g: &[u8], p: usize) -> Self
+        requires { p + WIDTH ≤ 2537 }
+        ensures { result ≡ read_of g.now p };
 }
 
-fn places(g: &[u8], p: usize) -> [Slot; 16]
-    requires { p < 2000 }
-    ensures { result ≡ set_below 16 (place_at g.now p) (replicate 16 zero_slot) }
+// `none` is only what the array holds before it is filled.
+fn read_all<T: Stands + Copy, const N: usize>(g: &[u8], from: usize, none: T) -> [T; N]
+    requires { from + N * T.WIDTH ≤ 2537 }
+    ensures { result ≡ set_below N (λ i. T.read_of g.now (from + i * T.WIDTH)) (replicate N none) }
 {
-    let z = values::zero_slot();
-    let mut a = [z; 16];
-    let mut i: usize = 0;
-    while i < 16 {
-        let x = place(g, p + i * PLACE);
-        a[i] = x;
-        i += 1;
+    let mut a = [none; N];
+    for i in 0..N {
+        a[i] = T::read(g, from + i * T::WIDTH);
     }
     a
 }
 
-#[tactic(auto, unfolding(crate::specs::Format::thread_of))]
-fn thread(g: &[u8], p: usize) -> Thread
-    requires { p < 1320 }
-    ensures { result ≡ thread_of g.now p }
-{
-    let vars = places(g, p + 5);
-    let stack = places(g, p + 85);
-    Thread {
-        live: ground::byte(g, p) == 1,
-        class: ground::byte(g, p + 1),
-        at: Addr(ground::word(g, p + 2)),
-        depth: ground::byte(g, p + 4),
-        vars: vars,
-        stack: stack,
+impl Stands for u8 {
+    ghost WIDTH = { 1 };
+
+    const WIDTH: usize = 1;
+
+    ghost read_of = { at };
+
+    fn read(g: &[u8], p: usize) -> u8 {
+        ground::byte(g, p)
     }
 }
 
-fn threads(g: &[u8]) -> [Thread; 8]
-    ensures { result ≡ set_below 8 (threads_at g.now) (replicate 8 idle) }
-{
-    let none = threads::idle();
-    let mut a = [none; 8];
-    let mut i: usize = 0;
-    while i < 8 {
-        let t = thread(g, i * THREAD);
-        a[i] = t;
-        i += 1;
+impl Stands for u16 {
+    ghost WIDTH = { 2 };
+
+    const WIDTH: usize = 2;
+
+    ghost read_of = { be16 };
+
+    fn read(g: &[u8], p: usize) -> u16 {
+        ground::word(g, p)
     }
-    a
 }
 
-fn counts(g: &[u8]) -> [u16; 256]
-    ensures { result ≡ set_below 256 (count_at g.now) (replicate 256 0) }
-{
-    let mut a = [0u16; 256];
-    let mut i: usize = 0;
-    while i < 256 {
-        a[i] = ground::word(g, COUNTS + i * 2);
-        i += 1;
+impl Stands for u32 {
+    ghost WIDTH = { 4 };
+
+    const WIDTH: usize = 4;
+
+    ghost read_of = { quad };
+
+    fn read(g: &[u8], p: usize) -> u32 {
+        ground::quad(g, p)
     }
-    a
 }
 
-fn classes(g: &[u8]) -> [u8; 32]
-    ensures { result ≡ set_below 32 (class_at g.now) (replicate 32 0) }
-{
-    let mut a = [0u8; 32];
-    let mut i: usize = 0;
-    while i < 32 {
-        a[i] = ground::byte(g, CLASSES + i);
-        i += 1;
+impl Stands for Slot {
+    ghost WIDTH = { 5 };
+
+    const WIDTH: usize = PLACE;
+
+    ghost read_of = { place_of };
+
+    fn read(g: &[u8], p: usize) -> Slot {
+        let kind = ground::byte(g, p);
+        if kind == 1 {
+            return values::ref_slot(ground::byte(g, p + 4));
+        }
+        if kind == 2 {
+            return values::null_slot();
+        }
+        values::int_slot(ground::quad(g, p + 1))
     }
-    a
 }
 
-fn fields(g: &[u8]) -> [Slot; 128]
-    ensures { result ≡ set_below 128 (place_at g.now 1865) (replicate 128 zero_slot) }
-{
-    let z = values::zero_slot();
-    let mut a = [z; 128];
-    let mut i: usize = 0;
-    while i < 128 {
-        let x = place(g, FIELDS + i * PLACE);
-        a[i] = x;
-        i += 1;
-    }
-    a
-}
+impl Stands for Thread {
+    ghost WIDTH = { 165 };
 
-fn words(g: &[u8]) -> [u32; 8]
-    ensures { result ≡ set_below 8 (word_at g.now) (replicate 8 0) }
-{
-    let mut a = [0u32; 8];
-    let mut i: usize = 0;
-    while i < 8 {
-        a[i] = ground::quad(g, WORDS + i * 4);
-        i += 1;
+    const WIDTH: usize = THREAD;
+
+    ghost read_of = { thread_of };
+
+    #[tactic(auto, unfolding(crate::specs::Format::thread_of))]
+    fn read(g: &[u8], p: usize) -> Thread {
+        let vars = read_all(g, p + 5, values::zero_slot());
+        let stack = read_all(g, p + 85, values::zero_slot());
+        Thread {
+            live: ground::byte(g, p) == 1,
+            class: ground::byte(g, p + 1),
+            at: Addr(ground::word(g, p + 2)),
+            depth: ground::byte(g, p + 4),
+            vars,
+            stack,
+        }
     }
-    a
 }
 
 // What is read of bytes that is_state refuses means nothing.
@@ -204,17 +191,12 @@ fn words(g: &[u8]) -> [u32; 8]
 pub fn state(g: &[u8]) -> State
     ensures { result ≡ state_of g.now }
 {
-    let threads = threads(g);
-    let counts = counts(g);
-    let classes = classes(g);
-    let fields = fields(g);
-    let held = words(g);
     State {
-        threads,
-        counts,
+        threads: read_all(g, 0, threads::idle()),
+        counts: read_all(g, COUNTS, 0),
         objects: ground::byte(g, OBJECTS),
-        classes,
-        fields,
-        held,
+        classes: read_all(g, CLASSES, 0),
+        fields: read_all(g, FIELDS, values::zero_slot()),
+        held: read_all(g, WORDS, 0),
     }
 }

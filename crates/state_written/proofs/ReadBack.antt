@@ -27,7 +27,8 @@ use Rattle.state.specs.declared.State.{State}
 use Rattle.state_bytes.specs.Format.{is_place, place_of, is_place_at, place_at, is_thread, thread_of, is_thread_at, threads_at, count_at, class_at, word_at, is_state, state_of}
 use Rattle.state_written.specs.Written.{halves, quad_bytes, place_bytes, place_bytes_at, thread_bytes, thread_bytes_at, count_bytes_at, class_bytes_at, word_bytes_at, state_bytes}
 use Rattle.state_written.specs.ReadBack.{ValueFits, PlacesFit, ThreadFits, StateFits, ReadsBack}
-use Rattle.state_written.proofs.Writing.{long-1, long-2, long-4, long-5, long-165, thread-long, long-A, long-AB, long-ABO, long-ABOC, long-ABOCD, bytes-long}
+use Rattle.state_written.specs.Widths.{long-each, thread-long}
+use Rattle.state_written.proofs.Writing.{long-A, long-AB, long-ABO, long-ABOC, long-ABOCD, bytes-long}
 
 -- the bytes l stand in g from p on
 record Has (g : List ℕ) (p : ℕ) (l : List ℕ) : Type 0 where
@@ -130,7 +131,7 @@ module _ (g : List ℕ) where
     each-place : (i : ℕ) → i < n → (place_at g p i ≡ get_or l i zero_slot) × (is_place_at g p i ≡ true)
     each-place i k =
         place-back (get_or l i zero_slot).value (p + i * 5) (f.fits i k)
-        (one (place_bytes_at l) n p h i (p + i * 5) k (omega (arith, long-5 (place_bytes_at l) (λ j. refl) i)))
+        (one (place_bytes_at l) n p h i (p + i * 5) k (omega (arith, long-each (place_bytes_at l) 5 (λ j. refl) i)))
 
     places-back : set_below n (place_at g p) (replicate n zero_slot) ≡ l
     places-back = all_back n (place_at g p) zero_slot l f.long (λ i k. (each-place i k).0)
@@ -162,7 +163,7 @@ module _ (g : List ℕ) where
 
     stack_at : Has g (p + 85) W
     unfolding thread_bytes
-    stack_at = back p (p + 85) (H ++ Vs) W (omega (arith, length-append H Vs, long-5 (place_bytes_at t.vars) (λ i. refl) 16)) h
+    stack_at = back p (p + 85) (H ++ Vs) W (omega (arith, length-append H Vs, long-each (place_bytes_at t.vars) 5 (λ i. refl) 16)) h
 
     thread-back : thread_of g p ≡ t
     unfolding thread_of
@@ -250,7 +251,7 @@ module _ (s : State) (f : StateFits s) where
   thread-at : (i : ℕ) → i < 8 → Has G (i * 165) (thread_bytes_at s.threads i)
   thread-at i l =
       one G (thread_bytes_at s.threads) 8 0 threads-at i (i * 165) l
-      (omega (arith, long-165 (thread_bytes_at s.threads) (λ j. thread-long (get_or s.threads j idle)) i))
+      (omega (arith, long-each (thread_bytes_at s.threads) 165 (λ j. thread-long (get_or s.threads j idle)) i))
 
   state-back : state_of G ≡ s
   unfolding state_of
@@ -267,18 +268,18 @@ module _ (s : State) (f : StateFits s) where
       count-back : (i : ℕ) → i < 256 → count_at G i ≡ at s.counts i
       count-back i l =
           halves-back G (at s.counts i) (1320 + i * 2) (f.counts.fits i l)
-          (one G (count_bytes_at s.counts) 256 1320 counts-at i (1320 + i * 2) l (omega (arith, long-2 (count_bytes_at s.counts) (λ j. refl) i)))
+          (one G (count_bytes_at s.counts) 256 1320 counts-at i (1320 + i * 2) l (omega (arith, long-each (count_bytes_at s.counts) 2 (λ j. refl) i)))
 
       class_back : (i : ℕ) → i < 32 → class_at G i ≡ at s.classes i
       class_back i l =
           read G (1833 + i) (class_bytes_at s.classes i)
-          (one G (class_bytes_at s.classes) 32 1833 classes-at i (1833 + i) l (omega (arith, long-1 (class_bytes_at s.classes) (λ j. refl) i)))
+          (one G (class_bytes_at s.classes) 32 1833 classes-at i (1833 + i) l (omega (arith, long-each (class_bytes_at s.classes) 1 (λ j. refl) i)))
           0 (1833 + i) (omega arith) (omega arith)
 
       word_back : (i : ℕ) → i < 8 → word_at G i ≡ at s.held i
       word_back i l =
           quad-back G (at s.held i) (2505 + i * 4) (f.held.fits i l)
-          (one G (word_bytes_at s.held) 8 2505 words-at i (2505 + i * 4) l (omega (arith, long-4 (word_bytes_at s.held) (λ j. refl) i)))
+          (one G (word_bytes_at s.held) 8 2505 words-at i (2505 + i * 4) l (omega (arith, long-each (word_bytes_at s.held) 4 (λ j. refl) i)))
 
   state-is : is_state G ≡ true
   unfolding is_state

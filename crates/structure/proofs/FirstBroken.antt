@@ -1,19 +1,17 @@
 -- `structure_of` judges the places of 1 to 7; and the code's searches are of parts of their list.
 use mathlib.Core.List.{List, [], ◌∷◌}
-use mathlib.Core.Path.{◌≡◌, refl, sym, ap, ◌∙◌}
+use mathlib.Core.Path.{◌≡◌, refl, ap, ◌∙◌}
 use mathlib.Core.Logic.{inl, inr, ⊎_elim}
 use mathlib.Core.Bool.{true}
 use Prim.Native.Nat.{ℕ, ◌+◌, ◌-◌, ◌<◌}
 use native.Mathlib.Omega.{arith}
 use Rattle.ground.specs.Lists.{each, In, first_broken}
-use Rattle.ground.proofs.Chain.{then-stop}
 use Rattle.ground.proofs.Lists.{in-append, in_left, in_right, in-each, each_in, in-numbered, numbered-in}
 use Rattle.bundle.specs.Container.{classes, class_at, part_of}
 use Rattle.bundle.specs.Program.{method_of, method_at, program_of}
-use Rattle.structure.specs.declared.Verdict.{Verdict}
-use Rattle.structure.specs.Verdicts.{verdict, is_bad, pass, Names}
+use Rattle.verdicts.specs.Verdicts.{verdict, is_bad, pass, Names}
 use Rattle.structure.specs.Places.{Place, whole, trailer, directory, limits, extent, descriptors, instruction, Within, head_places, shape_places, layout_places, table_places, structure_places, holds, drawn}
-use Rattle.structure.specs.Structure.{searched, head_of, layout_of, structure_of, StructureJudges}
+use Rattle.structure.specs.Structure.{searched, layout_of, structure_of, StructureJudges}
 use Rattle.structure.specs.Loops.{and_then, ascending, table_at, table_of}
 use Rattle.structure.proofs.Judges.{judges, search-then, search-last, search-each}
 
@@ -88,13 +86,12 @@ module _ (b : List ℕ) where
       search-then (holds b) drawn bad (verdict 0 (classes b) 0) (layout_places b) (each (classes b) (table_places b))
       ∙ ap (and_then (layout_of b)) (search-last (holds b) drawn bad (verdict 0 (classes b) 0) (each (classes b) (table_places b)))
 
-  -- what `head` finds is the first of all
-  pub head_first : {v : Verdict} → v ≡ head_of b → is_bad v ≡ true → v ≡ structure_of b
-  head_first q e = rw structure-parts (then-stop _ _ _ (rw layout-parts (then-stop _ _ _ q e)) e)
+  pub by-class : (f : ℕ → List Place) → searched b (each (classes b) f) ≡ ascending (classes b) (λ c. searched b (f c))
+  by-class f = search-each (holds b) drawn bad (classes b) f
 
-  pub by-class : (f : ℕ → List Place) → ascending (classes b) (λ c. searched b (f c)) ≡ searched b (each (classes b) f)
-  by-class f = sym (search-each (holds b) drawn bad (classes b) f)
-
-  pub table-parts : (c : ℕ) → table_of b c (class_at b c) (part_of b (class_at b c)) ≡ searched b (table_places b c)
+  pub table-parts : (c : ℕ) → searched b (table_places b c) ≡ table_of b c (class_at b c) (part_of b (class_at b c))
   unfolding table_at first_broken
-  table-parts c = sym (search-each (holds b) drawn bad (class_at b c).code (λ i. instruction c (i + 1) ∷ []))
+  table-parts c = search-each (holds b) drawn bad (class_at b c).code (λ i. instruction c (i + 1) ∷ [])
+
+-- what the code searches, as its parts
+pub ruleset searching = (layout-parts, structure-parts, by-class, table-parts)

@@ -6,8 +6,8 @@ use Prim.Native.Nat.{ℕ}
 use borrow.Author.Tests.{eq-eqb}
 use Rattle.ground.specs.Lists.{each, In, first_broken}
 use Rattle.ground.proofs.Lists.{all_in, in_all, first-all, all_first, first-is, first-append, first-each}
-use Rattle.structure.specs.declared.Verdict.{Verdict}
-use Rattle.structure.specs.Verdicts.{verdict, is_bad, pass, Judges}
+use Rattle.verdicts.specs.declared.Verdict.{Verdict}
+use Rattle.verdicts.specs.Verdicts.{verdict, is_bad, pass, Judges}
 use Rattle.structure.specs.Loops.{and_then, ascending}
 
 module _ {P : Type 0} (holds : P → Bool) (drawn : P → Verdict) (bad : (p : P) → is_bad (drawn p) ≡ true) where

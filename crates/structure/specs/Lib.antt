@@ -1,4 +1,3 @@
-pub mod Verdicts
 pub mod Conditions
 pub mod Places
 pub mod Structure

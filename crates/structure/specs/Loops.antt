@@ -2,8 +2,8 @@
 use Rattle.std.specs.Prelude.{List, ℕ, ◌+◌}
 use Rattle.ground.specs.Chain.{refuse, or_then, scan}
 use Rattle.bundle.specs.declared.Class.{Class}
-use Rattle.structure.specs.declared.Verdict.{Verdict}
-use Rattle.structure.specs.Verdicts.{verdict, is_bad, pass}
+use Rattle.verdicts.specs.declared.Verdict.{Verdict}
+use Rattle.verdicts.specs.Verdicts.{verdict, is_bad, pass}
 use Rattle.structure.specs.Conditions.{address_ok}
 
 -- one search after another: the first's verdict where it is bad

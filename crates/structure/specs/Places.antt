@@ -3,8 +3,8 @@ use Rattle.std.specs.Prelude.{List, [], ◌∷◌, ◌++◌, Bool, ℕ, ◌+◌,
 use Rattle.ground.specs.Lists.{each, numbered}
 use Rattle.bundle.specs.Container.{classes, class_at, record_fits, part_of}
 use Rattle.bundle.specs.Program.{Address, program_of}
-use Rattle.structure.specs.declared.Verdict.{Verdict}
-use Rattle.structure.specs.Verdicts.{verdict}
+use Rattle.verdicts.specs.declared.Verdict.{Verdict}
+use Rattle.verdicts.specs.Verdicts.{verdict}
 use Rattle.structure.specs.Conditions.{length_ok, trailer_ok, directory_ok, limits_ok, descriptors_ok, address_ok}
 
 pub data Place : Type 0 where

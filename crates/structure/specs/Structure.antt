@@ -3,8 +3,8 @@ use Rattle.std.specs.Prelude.{List, [], ◌&&◌, ℕ, ltb, eqb}
 use Rattle.ground.specs.Chain.{refuse}
 use Rattle.ground.specs.Lists.{first_broken}
 use Rattle.bundle.specs.Container.{classes, class_at, part_of, part_place}
-use Rattle.structure.specs.declared.Verdict.{Verdict}
-use Rattle.structure.specs.Verdicts.{verdict, pass, Judges}
+use Rattle.verdicts.specs.declared.Verdict.{Verdict}
+use Rattle.verdicts.specs.Verdicts.{verdict, pass, Judges}
 use Rattle.structure.specs.Places.{Place, Within, head_places, layout_places, structure_places, holds, drawn}
 
 -- the verdict of the first broken of some places, and `pass` where all hold

@@ -2,6 +2,7 @@
 #![tactic(auto)]
 
 ghost use Rattle.std.specs.Prelude.{◌≡◌, ◌<◌, ◌≤◌, ◌/◌};
+ghost use Rattle.verdicts.specs.Numbers.{found, judgement};
 ghost use Rattle.structure.specs.Conditions.{length_ok, trailer_ok, directory_ok, main_ok, code_ok, limits_ok, descriptor_ok, descriptors_ok, address_ok};
 ghost use Rattle.structure.specs.Places.{shape_places, table_places};
 ghost use Rattle.structure.specs.Structure.{searched, head_of, layout_of, structure_of, record_of, record_place};
@@ -10,24 +11,18 @@ ghost use Rattle.ground.specs.Lists.{each};
 ghost use Rattle.ground.specs.Bytes.{Begins};
 ghost use Rattle.bundle.specs.Container.{classes, class_at, fields_of};
 
-use bundle::Class;
+use bundle::{Class, Record};
 use instructions::{Addr, Code};
+use verdicts::Refusal;
 
-// The document's number, class and address, and why a 9's rule fails; 0 is no verdict or, at the end, accepted with the class count.
-#[derive(Clone, Copy)]
-pub struct Verdict {
-    pub number: u8,
-    pub class: u8,
-    pub address: u16,
-    pub why: u8,
-}
-
+#[tactic(auto, unfolding(crate::specs::Conditions::length_ok))]
 fn length_ok(b: &[u8]) -> bool
     ensures { result ≡ length_ok b.now }
 {
     (8 <= b.len()) & (b.len() <= 65535)
 }
 
+#[tactic(auto, unfolding(crate::specs::Conditions::trailer_ok))]
 fn trailer_ok(b: &[u8]) -> bool
     ensures { result ≡ trailer_ok b.now }
 {
@@ -36,6 +31,7 @@ fn trailer_ok(b: &[u8]) -> bool
         & (ground::word(b, ground::back(b, 4)) as usize == b.len())
 }
 
+#[tactic(auto, unfolding(crate::specs::Conditions::directory_ok))]
 fn directory_ok(b: &[u8]) -> bool
     ensures { result ≡ directory_ok b.now }
 {
@@ -47,53 +43,37 @@ fn directory_ok(b: &[u8]) -> bool
 }
 
 // Verdicts 1 to 3, told from the length and the last eight bytes alone.
-pub fn head(b: &[u8]) -> Verdict
-    ensures { result ≡ head_of b.now }
+#[tactic(auto, unfolding(ground::specs::Lists::first_broken, ground::specs::Chain::refuse))]
+pub fn head(b: &[u8]) -> Result<(), Refusal>
+    ensures { found result ≡ head_of b.now }
 {
     if !length_ok(b) {
-        return Verdict {
-            number: 1,
-            class: 0,
-            address: 0,
-            why: 0,
-        };
+        return Err(Refusal::Length);
     }
     if !trailer_ok(b) {
-        return Verdict {
-            number: 2,
-            class: 0,
-            address: 0,
-            why: 0,
-        };
+        return Err(Refusal::Trailer);
     }
     if !directory_ok(b) {
-        return Verdict {
-            number: 3,
-            class: 0,
-            address: 0,
-            why: 0,
-        };
+        return Err(Refusal::Directory);
     }
-    Verdict {
-        number: 0,
-        class: 0,
-        address: 0,
-        why: 0,
-    }
+    Ok(())
 }
 
+#[tactic(auto, unfolding(crate::specs::Conditions::main_ok))]
 fn main_ok(c: u8, k: Class) -> bool
     ensures { result ≡ main_ok c k }
 {
     (c != 0) | (k.args == 0)
 }
 
+#[tactic(auto, unfolding(crate::specs::Conditions::code_ok))]
 fn code_ok(k: Class) -> bool
     ensures { result ≡ code_ok k }
 {
     (1 <= k.code) & (k.code <= 256)
 }
 
+#[tactic(auto, unfolding(crate::specs::Conditions::limits_ok))]
 fn limits_ok(c: u8, k: Class) -> bool
     ensures { result ≡ limits_ok c k }
 {
@@ -105,6 +85,7 @@ fn limits_ok(c: u8, k: Class) -> bool
         & code_ok(k)
 }
 
+#[tactic(auto, unfolding(crate::specs::Conditions::descriptor_ok))]
 fn descriptor_ok(n: u8, r: &[u8], i: usize) -> bool
     ensures { result ≡ descriptor_ok n r.now i }
 {
@@ -112,86 +93,51 @@ fn descriptor_ok(n: u8, r: &[u8], i: usize) -> bool
     (d == 255) | (d < n)
 }
 
-fn descriptors_ok(n: u8, k: Class, r: &[u8]) -> bool
-    ensures { result ≡ descriptors_ok n k r.now }
+#[tactic(auto, using(ground::proofs::Bounded::every), unfolding(crate::specs::Conditions::descriptors_ok))]
+fn descriptors_ok(m: &Record) -> bool
+    ensures { result ≡ descriptors_ok m.now.classes m.now.class m.now.bytes.now }
 {
-    let count = k.args as usize + k.fields as usize;
-    for i in 0..count {
-        if !descriptor_ok(n, r, i) {
+    for i in 0..m.class.args as usize + m.class.fields as usize {
+        if !descriptor_ok(m.classes, m.bytes, i) {
             return false;
         }
     }
     true
 }
 
-fn shape_of(b: &[u8], c: u8, k: Class) -> Verdict
-    requires { k ≡ class_at b.now c }
-    ensures { result ≡ searched b.now (shape_places c) }
+#[tactic(auto, unfolding(ground::specs::Lists::first_broken, ground::specs::Chain::refuse))]
+fn shape_at(b: &[u8], c: u8) -> Result<(), Refusal>
+    ensures { found result ≡ searched b.now (shape_places c) }
 {
-    if !limits_ok(c, k) {
-        return Verdict {
-            number: 4,
-            class: c,
-            address: 0,
-            why: 0,
-        };
+    let m = bundle::record_at(b, c);
+    if !limits_ok(c, m.class) {
+        return Err(Refusal::Limits(c));
     }
-    if !bundle::record_fits(b, k) {
-        return Verdict {
-            number: 5,
-            class: c,
-            address: 0,
-            why: 0,
-        };
+    if !bundle::record_fits(b, m.class) {
+        return Err(Refusal::Extent(c));
     }
-    if !descriptors_ok(bundle::classes(b), k, bundle::part_of(b, k)) {
-        return Verdict {
-            number: 6,
-            class: c,
-            address: 0,
-            why: 0,
-        };
+    if !descriptors_ok(&m) {
+        return Err(Refusal::Descriptors(c));
     }
-    Verdict {
-        number: 0,
-        class: 0,
-        address: 0,
-        why: 0,
-    }
+    Ok(())
 }
 
-fn shape_at(b: &[u8], c: u8) -> Verdict
-    ensures { result ≡ searched b.now (shape_places c) }
+#[tactic(auto, using(verdicts::proofs::Numbers::searching, crate::proofs::FirstBroken::searching))]
+fn shapes(b: &[u8]) -> Result<(), Refusal>
+    ensures { found result ≡ searched b.now (each (classes b.now) shape_places) }
 {
-    shape_of(b, c, bundle::class_at(b, c))
-}
-
-fn shapes(b: &[u8]) -> Verdict
-    ensures { result ≡ searched b.now (each (classes b.now) shape_places) }
-{
-    let n = bundle::classes(b);
-    for c in 0..n {
-        let v = shape_at(b, c);
-        if v.number != 0 {
-            return v;
-        }
+    for c in 0..bundle::classes(b) {
+        shape_at(b, c)?;
     }
-    Verdict {
-        number: 0,
-        class: 0,
-        address: 0,
-        why: 0,
-    }
+    Ok(())
 }
 
 // Verdicts 1 to 6: where these pass, every record can be read.
-fn layout(b: &[u8]) -> Verdict
-    ensures { result ≡ layout_of b.now }
+#[tactic(auto, using(verdicts::proofs::Numbers::searching, crate::proofs::FirstBroken::searching))]
+fn layout(b: &[u8]) -> Result<(), Refusal>
+    ensures { found result ≡ layout_of b.now }
 {
-    let v = head(b);
-    if v.number != 0 {
-        return v;
-    }
+    head(b)?;
     shapes(b)
 }
 
@@ -205,104 +151,76 @@ fn named_fields(b: &[u8], x: Code) -> u8
     bundle::class_at(b, x.operand / 4).fields
 }
 
-fn address_ok(b: &[u8], n: u8, k: Class, r: &[u8], l: Addr) -> bool
-    requires { n ≡ classes b.now }
-    ensures { result ≡ address_ok b.now k r.now l.0 }
+fn address_ok(b: &[u8], m: &Record, l: Addr) -> bool
+    requires { m.now.classes ≡ classes b.now }
+    ensures { result ≡ address_ok b.now m.now.class m.now.bytes.now l.0 }
 {
-    let x = bundle::code_at(k, r, l);
-    instructions::instruction_ok(n, named_fields(b, x), k.vars, k.code, l, x)
+    let x = m.code_at(l);
+    instructions::instruction_ok(
+        m.classes,
+        named_fields(b, x),
+        m.class.vars,
+        m.class.code,
+        l,
+        x,
+    )
 }
 
-fn table_at(b: &[u8], n: u8, c: u8, k: Class, r: &[u8], i: u16) -> Verdict
-    requires { (i < 65535) × (n ≡ classes b.now) }
-    ensures { result ≡ table_at b.now c k r.now i }
+#[tactic(auto, unfolding(crate::specs::Loops::table_at, ground::specs::Chain::refuse))]
+fn table_at(b: &[u8], c: u8, m: &Record, i: u16) -> Result<(), Refusal>
+    requires { (i < 65535) × (m.now.classes ≡ classes b.now) }
+    ensures { found result ≡ table_at b.now c m.now.class m.now.bytes.now i }
 {
-    if !address_ok(b, n, k, r, Addr(i + 1)) {
-        return Verdict {
-            number: 7,
-            class: c,
-            address: i + 1,
-            why: 0,
-        };
+    if !address_ok(b, m, Addr(i + 1)) {
+        return Err(Refusal::Instruction(c, Addr(i + 1)));
     }
-    Verdict {
-        number: 0,
-        class: 0,
-        address: 0,
-        why: 0,
-    }
+    Ok(())
 }
 
-fn table_of(b: &[u8], n: u8, c: u8, k: Class, r: &[u8]) -> Verdict
-    requires { n ≡ classes b.now }
-    ensures { result ≡ table_of b.now c k r.now }
+#[tactic(auto, using(verdicts::proofs::Numbers::searching))]
+fn table_of(b: &[u8], c: u8, m: &Record) -> Result<(), Refusal>
+    requires { m.now.classes ≡ classes b.now }
+    ensures { found result ≡ table_of b.now c m.now.class m.now.bytes.now }
 {
-    let code = k.code;
-    for i in 0..code {
-        let v = table_at(b, n, c, k, r, i);
-        if v.number != 0 {
-            return v;
-        }
+    for i in 0..m.class.code {
+        table_at(b, c, m, i)?;
     }
-    Verdict {
-        number: 0,
-        class: 0,
-        address: 0,
-        why: 0,
-    }
+    Ok(())
 }
 
-fn table_of_class(b: &[u8], c: u8) -> Verdict
-    ensures { result ≡ searched b.now (table_places b.now c) }
+#[tactic(auto, using(crate::proofs::FirstBroken::searching))]
+fn table_of_class(b: &[u8], c: u8) -> Result<(), Refusal>
+    ensures { found result ≡ searched b.now (table_places b.now c) }
 {
-    let k = bundle::class_at(b, c);
-    table_of(b, bundle::classes(b), c, k, bundle::part_of(b, k))
+    table_of(b, c, &bundle::record_at(b, c))
 }
 
-fn tables(b: &[u8]) -> Verdict
-    ensures { result ≡ searched b.now (each (classes b.now) (table_places b.now)) }
+#[tactic(auto, using(verdicts::proofs::Numbers::searching, crate::proofs::FirstBroken::searching))]
+fn tables(b: &[u8]) -> Result<(), Refusal>
+    ensures { found result ≡ searched b.now (each (classes b.now) (table_places b.now)) }
 {
-    let n = bundle::classes(b);
-    for c in 0..n {
-        let v = table_of_class(b, c);
-        if v.number != 0 {
-            return v;
-        }
+    for c in 0..bundle::classes(b) {
+        table_of_class(b, c)?;
     }
-    Verdict {
-        number: 0,
-        class: 0,
-        address: 0,
-        why: 0,
-    }
+    Ok(())
 }
 
-// The first of verdicts 1 to 7 that the bundle draws; 0 with the class count where there is none.
-pub fn structure(b: &[u8]) -> Verdict
-    ensures { result ≡ structure_of b.now }
+// The first of verdicts 1 to 7 that the bundle draws; the class count where there is none.
+#[tactic(auto, using(verdicts::proofs::Numbers::searching, crate::proofs::FirstBroken::searching))]
+pub fn structure(b: &[u8]) -> Result<u8, Refusal>
+    ensures { judgement result ≡ structure_of b.now }
 {
-    let v = layout(b);
-    if v.number != 0 {
-        return v;
-    }
-    let w = tables(b);
-    if w.number != 0 {
-        return w;
-    }
-    Verdict {
-        number: 0,
-        class: bundle::classes(b),
-        address: 0,
-        why: 0,
-    }
+    layout(b)?;
+    tables(b)?;
+    Ok(bundle::classes(b))
 }
 
 // The record of a class as a part of the caller's bundle, no copy; empty on verdicts 1 to 6 or where there is no such class.
+#[tactic(auto, unfolding(crate::specs::Structure::record_of, crate::specs::Structure::record_place, ground::specs::Chain::refuse))]
 pub fn record<'a>(b: &'a [u8], c: u8) -> &'a [u8]
     ensures { (result.now ≡ record_of b.now c) × Begins result b.entry (record_place b.now c) }
 {
-    let v = layout(b);
-    if v.number != 0 {
+    if layout(b).is_err() {
         return &b[..0];
     }
     if bundle::classes(b) <= c {

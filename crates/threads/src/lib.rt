@@ -10,7 +10,7 @@ use instructions::{Addr, Var};
 use values::Slot;
 
 // The arrays come first, with no gap before them: threads and states are copied often.
-#[derive(Clone, Copy)]
+#[derive(Clone, Copy, PartialEq, Eq)]
 pub struct Thread {
     pub vars: [Slot; 16],
     pub stack: [Slot; 16],
@@ -34,18 +34,11 @@ pub fn idle() -> Thread
     }
 }
 
-// Below 0 there is 0.
-fn minus(a: u8, b: u8) -> u8
-    ensures { result ≡ a - b }
-{
-    if a < b { 0 } else { a - b }
-}
-
 // The place of stack entry j.
 fn place(depth: u8, j: u8) -> u8
     ensures { result ≡ depth - 1 - j }
 {
-    minus(minus(depth, 1), j)
+    depth.saturating_sub(1).saturating_sub(j)
 }
 
 pub fn from_top(t: Thread, j: u8) -> Slot
@@ -80,7 +73,7 @@ pub fn set_top(t: Thread, x: Slot) -> Thread
     ensures { result ≡ topped t x }
 {
     let mut next = t;
-    let p = minus(t.depth, 1) as usize;
+    let p = t.depth.saturating_sub(1) as usize;
     if p < 16 {
         next.stack[p] = x;
         return next;
@@ -108,16 +101,12 @@ fn zero_from(a: [Slot; 16], from: u8, n: u8) -> [Slot; 16]
 {
     let mut next = a;
     let z = values::zero_slot();
-    let start = from as usize;
-    let count = n as usize;
-    let mut i: usize = 0;
-    while i < count {
-        let p = start + i;
+    for i in 0..n {
+        let p = from as usize + i as usize;
         if 16 <= p {
             return next;
         }
         next[p] = z;
-        i += 1;
     }
     next
 }
@@ -127,7 +116,7 @@ pub fn pop(t: Thread, n: u8) -> Thread
     ensures { result ≡ popped n t }
 {
     let mut next = t;
-    let d = minus(t.depth, n);
+    let d = t.depth.saturating_sub(n);
     let old = t.stack;
     let stack = zero_from(old, d, n);
     next.stack = stack;
@@ -180,8 +169,7 @@ fn arguments(starter: Thread, n: u8) -> [Slot; 16]
     let z = values::zero_slot();
     let mut next = [z; 16];
     let d = starter.depth;
-    let mut j: u8 = 0;
-    while j < n {
+    for j in 0..n {
         let i = j as usize;
         if 16 <= i {
             return next;
@@ -189,7 +177,6 @@ fn arguments(starter: Thread, n: u8) -> [Slot; 16]
         let p = place(d, j) as usize;
         let x = if p < 16 { starter.stack[p] } else { z };
         next[i] = x;
-        j += 1;
     }
     next
 }

@@ -12,12 +12,12 @@ use Rattle.bundle.specs.Container.{class_at, part_of, instruction_at}
 use Rattle.bundle.specs.Program.{Method, method_of, method_at, program_of}
 use Rattle.threads.specs.declared.Thread.{Thread}
 use Rattle.state.specs.declared.State.{State}
-use Rattle.turns.specs.declared.Stepped.{Stepped}
+use Rattle.turns.specs.Stepped.{Stepped}
 use Rattle.turns.specs.Exec.{exec_of, run_of, turn_of}
 
 -- of its method only the limits are read
 pub does : (b : List ℕ) (s : State) (i : ℕ) (t : Thread) (fails : Bool) {k : Class} {r : List ℕ} {x : Instruction} {y : Stepped} → not t.live ≡ false
-    → t.at.0 < 65535 → k ≡ class_at b t.class → r ≡ part_of b k → x ≡ instruction_at k r t.at.0
+    → t.at.0 < 65535 → k ≡ class_at b t.class → r ≡ part_of b (class_at b t.class) → x ≡ instruction_at k r t.at.0
     → ((m : Method) → m.limit ≡ k.limit → m.vars ≡ k.vars → y ≡ exec_of (program_of b) s i t m fails x) → y ≡ turn_of (program_of b) s i t fails
 unfolding run_of program_of method_at method_of
 does b s i t fails {k} {r} f n ek er ex ey =

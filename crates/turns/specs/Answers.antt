@@ -2,7 +2,7 @@
 use Rattle.std.specs.Prelude.{Bool, ℕ, eqb}
 use Rattle.ground.specs.Chain.{refuse}
 use Rattle.state.specs.declared.State.{State}
-use Rattle.turns.specs.declared.Stepped.{Stepped}
+use Rattle.turns.specs.Stepped.{Stepped}
 
 -- all but 0, 1, 2 give back the state as given
 abbrev pub refused : ℕ → State → Stepped

@@ -4,7 +4,7 @@ use Rattle.instructions.specs.declared.Instruction.{Instruction}
 use Rattle.bundle.specs.Program.{Method, Program}
 use Rattle.threads.specs.declared.Thread.{Thread}
 use Rattle.state.specs.declared.State.{State}
-use Rattle.turns.specs.declared.Stepped.{Stepped}
+use Rattle.turns.specs.Stepped.{Stepped}
 use Rattle.turns.specs.Answers.{unless, unless_drawn}
 use Rattle.turns.specs.Faults.{fault_of}
 use Rattle.turns.specs.Waits.{wait_of}

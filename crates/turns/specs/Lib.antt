@@ -1,3 +1,5 @@
+pub mod Stepped
+pub mod Numbers
 pub mod Answers
 pub mod Faults
 pub mod Waits

@@ -11,7 +11,7 @@ use Rattle.threads.specs.declared.Thread.{Thread}
 use Rattle.threads.specs.Threads.{from_top, top_of, var_of, with_at, topped, pushed, popped, stored, ended, started}
 use Rattle.state.specs.declared.State.{State}
 use Rattle.state.specs.State.{thread_at, count_of, with_thread, with_count, field_of, with_field, with_object, lowest_free}
-use Rattle.turns.specs.declared.Stepped.{Stepped}
+use Rattle.turns.specs.Stepped.{Stepped}
 use Rattle.turns.specs.Faults.{lock_of, new_fails}
 
 -- 0: thread i goes on as u, at address a

@@ -7,20 +7,19 @@ ghost use Rattle.turns.specs.Faults.{may_be_object, is_field_value, get_fault, p
 ghost use Rattle.turns.specs.Moves.{first_field, first_fields, get_move, put_move};
 ghost use Rattle.turns.specs.Turns.{turned};
 
-use crate::{Change, Turn, ends, moves, starts};
-use bundle::Class;
+use crate::{Answer, Change, Turn, View, ends, moves, starts};
+use bundle::{Class, Record};
 use instructions::Addr;
 use threads::Thread;
 use values::Slot;
 
-// `r` is the record of the class.
-fn first_field(k: Class, r: &[u8], j: u8) -> Slot
-    ensures { result ≡ first_field (method_of k r.now) j }
+fn first_field(m: &Record, j: u8) -> Slot
+    ensures { result ≡ first_field (method_of m.now.class m.now.bytes.now) j }
 {
-    if k.fields <= j {
+    if m.class.fields <= j {
         return values::zero_slot();
     }
-    if bundle::field_at(k, r, j) == 255 {
+    if m.field_at(j) == 255 {
         return values::zero_slot();
     }
     values::null_slot()
@@ -29,22 +28,13 @@ fn first_field(k: Class, r: &[u8], j: u8) -> Slot
 pub fn first_fields(b: &[u8], c: u8) -> [Slot; 4]
     ensures { result ≡ first_fields (method_at b.now c) }
 {
-    let k = bundle::class_at(b, c);
-    let r = bundle::part_of(b, k);
+    let m = bundle::record_at(b, c);
     [
-        first_field(k, r, 0),
-        first_field(k, r, 1),
-        first_field(k, r, 2),
-        first_field(k, r, 3),
+        first_field(&m, 0),
+        first_field(&m, 1),
+        first_field(&m, 2),
+        first_field(&m, 3),
     ]
-}
-
-// The descriptor of field f of class c.
-pub(crate) fn descriptor(b: &[u8], c: u8, f: u8) -> u8
-    ensures { result ≡ (method_at b.now c).field f }
-{
-    let k = bundle::class_at(b, c);
-    bundle::field_at(k, bundle::part_of(b, k), f)
 }
 
 fn may_be_object(classes: &[u8], c: u8, x: Slot) -> bool
@@ -67,59 +57,53 @@ fn is_field_value(classes: &[u8], d: u8, x: Slot) -> bool
 
 // A null owner throws object 0, as a failed new does.
 pub(crate) fn get_turn(
-    counts: &[u16],
-    classes: &[u8],
-    i: u8,
+    view: &View,
     t: Thread,
+    k: Class,
     c: u8,
-    limit: u8,
-    vars: u8,
     f: u8,
     h: Addr,
-) -> Turn
+) -> Result<Turn, Answer>
     requires { t.at.0 < 65535 }
-    ensures { (P : Program) (s : State) → s.counts ≡ counts.now → s.classes ≡ classes.now → turned P s i t result ≡ unless_drawn (get_fault s i t c limit h) s (get_move s i t vars f h) }
+    ensures { (P : Program) (s : State) → s.counts ≡ view.now.counts.now → s.classes ≡ view.now.classes.now → turned P s view.now.number t result ≡ unless_drawn (get_fault s view.now.number t c k.limit h) s (get_move s view.now.number t k.vars f h) }
 {
     if t.depth < 1 {
-        return moves::refused(t, 11);
+        return Err(Answer::StackShort);
     }
     let x = threads::top(t);
-    if !may_be_object(classes, c, x) {
-        return moves::refused(t, 13);
+    if !may_be_object(view.classes, c, x) {
+        return Err(Answer::WrongKind);
     }
     if values::is_null(x) {
-        return ends::throw_turn(counts, i, t, limit, vars, h, values::ref_slot(0));
+        return ends::throw_turn(view, t, k, h, values::ref_slot(0));
     }
-    moves::went_on(t.at, t, Change::Top(values::object_of(x), f))
+    Ok(moves::went_on(t.at, t, Change::Top(values::object_of(x), f)))
 }
 
 // The value is on top, the owner below it; `d` is the field's descriptor.
 pub(crate) fn put_turn(
-    counts: &[u16],
-    classes: &[u8],
-    i: u8,
+    view: &View,
     t: Thread,
+    k: Class,
     c: u8,
     d: u8,
-    limit: u8,
-    vars: u8,
     f: u8,
     h: Addr,
-) -> Turn
+) -> Result<Turn, Answer>
     requires { t.at.0 < 65535 }
-    ensures { (P : Program) (s : State) → s.counts ≡ counts.now → s.classes ≡ classes.now → turned P s i t result ≡ unless_drawn (put_fault s i t c d limit h) s (put_move s i t vars f h) }
+    ensures { (P : Program) (s : State) → s.counts ≡ view.now.counts.now → s.classes ≡ view.now.classes.now → turned P s view.now.number t result ≡ unless_drawn (put_fault s view.now.number t c d k.limit h) s (put_move s view.now.number t k.vars f h) }
 {
     if t.depth < 2 {
-        return moves::refused(t, 11);
+        return Err(Answer::StackShort);
     }
     let x = threads::top(t);
     let y = threads::from_top(t, 1);
-    if !(is_field_value(classes, d, x) & may_be_object(classes, c, y)) {
-        return moves::refused(t, 13);
+    if !(is_field_value(view.classes, d, x) & may_be_object(view.classes, c, y)) {
+        return Err(Answer::WrongKind);
     }
     if values::is_null(y) {
-        return ends::throw_turn(counts, i, t, limit, vars, h, values::ref_slot(0));
+        return ends::throw_turn(view, t, k, h, values::ref_slot(0));
     }
     let u = threads::pop(t, 2);
-    moves::went_on(t.at, u, Change::Field(values::object_of(y), f, x))
+    Ok(moves::went_on(t.at, u, Change::Field(values::object_of(y), f, x)))
 }

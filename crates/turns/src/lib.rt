@@ -11,6 +11,7 @@ mod starts;
 ghost use Rattle.std.specs.Prelude.{◌≡◌, ◌<◌};
 ghost use Rattle.bundle.specs.Program.{Method, program_of};
 ghost use Rattle.state.specs.declared.State.{State};
+ghost use Rattle.turns.specs.Numbers.{answer_number};
 ghost use Rattle.turns.specs.Exec.{exec_of, turn_of};
 ghost use Rattle.turns.specs.Turns.{turned};
 
@@ -20,18 +21,70 @@ use state::State;
 use threads::Thread;
 use values::Slot;
 
-// The answer of document 01's table, and the state: all answers but 0, 1, 2 give it back as given. The state comes first, with no gap before it.
+// How a step goes: the three that change the state, the two that wait, and why a step cannot be.
+#[derive(Clone, Copy)]
+pub enum Answer {
+    WentOn,
+    Returned,
+    Uncaught,
+    // Another thread holds the object.
+    Taken,
+    // Eight threads live.
+    Crowded,
+    NotLive,
+    StackShort,
+    StackFull,
+    WrongKind,
+    NotHeld,
+    StillHolds,
+    CountFull,
+    BadBundle,
+    BadState,
+}
+
+impl Answer {
+    // Its number in document 01's table.
+    pub fn number(self) -> u8
+        ensures { result ≡ answer_number self }
+    {
+        match self {
+            Answer::WentOn => 0,
+            Answer::Returned => 1,
+            Answer::Uncaught => 2,
+            Answer::Taken => 3,
+            Answer::Crowded => 4,
+            Answer::NotLive => 5,
+            Answer::StackShort => 11,
+            Answer::StackFull => 12,
+            Answer::WrongKind => 13,
+            Answer::NotHeld => 14,
+            Answer::StillHolds => 15,
+            Answer::CountFull => 16,
+            Answer::BadBundle => 17,
+            Answer::BadState => 18,
+        }
+    }
+}
+
+// How a step went, and the state: all answers but the first three give it back as given. The state comes first, with no gap before it.
 #[derive(Clone, Copy)]
 pub struct Stepped {
     pub state: State,
-    pub answer: u8,
+    pub answer: Answer,
+}
+
+// What a turn reads of the state beside its thread: how many objects there are, the counts, the objects' classes. `number` is the thread's.
+#[derive(Clone, Copy)]
+pub struct View<'a> {
+    pub objects: u8,
+    pub counts: &'a [u16],
+    pub classes: &'a [u8],
+    pub number: u8,
 }
 
 // What changes in the state beside the thread that takes its turn.
 #[derive(Clone, Copy)]
 pub enum Change {
-    // Nothing, nor does the thread.
-    Refusal,
     // Nothing else.
     Alone,
     // Its count of an object.
@@ -46,27 +99,24 @@ pub enum Change {
     Begin(u8, u8),
 }
 
-// One turn of a thread: how it goes on, the answer, and what else changes.
+// One turn of a thread: how it goes on, the answer, and what else changes. A turn that cannot be is the answer alone: neither the thread nor the state changes.
 #[derive(Clone, Copy)]
 pub struct Turn {
     pub thread: Thread,
-    pub answer: u8,
+    pub answer: Answer,
     pub change: Change,
 }
 
 fn exec(
     b: &[u8],
-    objects: u8,
-    counts: &[u16],
-    classes: &[u8],
-    i: u8,
+    view: &View,
     t: Thread,
     k: Class,
     x: Instruction,
     fails: bool,
-) -> Turn
+) -> Result<Turn, Answer>
     requires { t.at.0 < 65535 }
-    ensures { (m : Method) (s : State) → m.limit ≡ k.limit → m.vars ≡ k.vars → s.objects ≡ objects → s.counts ≡ counts.now → s.classes ≡ classes.now → turned (program_of b.now) s i t result ≡ exec_of (program_of b.now) s i t m fails x }
+    ensures { (m : Method) (s : State) → m.limit ≡ k.limit → m.vars ≡ k.vars → s.objects ≡ view.now.objects → s.counts ≡ view.now.counts.now → s.classes ≡ view.now.classes.now → turned (program_of b.now) s view.now.number t result ≡ exec_of (program_of b.now) s view.now.number t m fails x }
 {
     match x {
         Instruction::Inc => stack::inc_turn(t),
@@ -75,61 +125,35 @@ fn exec(
         Instruction::Load(v) => stack::load_turn(t, k.limit, v),
         Instruction::Store(v) => stack::store_turn(t, v),
         Instruction::If(a) => stack::if_turn(t, a),
-        Instruction::Enter(v, h) => locks::enter_turn(counts, i, t, v, k.limit, k.vars, h),
-        Instruction::Exit(v) => locks::exit_turn(counts, i, t, v),
-        Instruction::New(c, h) => ends::new_turn(
-            counts, objects, i, t, k.limit, k.vars, c, h, fails,
-        ),
-        Instruction::Start(c) => starts::start_class(b, classes, t, c),
-        Instruction::Throw(h) => ends::athrow_turn(
-            counts,
-            classes,
-            i,
-            t,
-            bundle::exception(b),
-            k.limit,
-            k.vars,
-            h,
-        ),
-        Instruction::Return => ends::end_turn(counts, i, t, k.vars, 1),
-        Instruction::Get(c, f, h) => fields::get_turn(
-            counts, classes, i, t, c, k.limit, k.vars, f, h,
-        ),
+        Instruction::Enter(v, h) => locks::enter_turn(view, t, k, v, h),
+        Instruction::Exit(v) => locks::exit_turn(view, t, v),
+        Instruction::New(c, h) => ends::new_turn(view, t, k, c, h, fails),
+        Instruction::Start(c) => starts::start_class(b, view.classes, t, c),
+        Instruction::Throw(h) => ends::athrow_turn(view, t, k, bundle::exception(b), h),
+        Instruction::Return => ends::end_turn(view, t, k.vars, Answer::Returned),
+        Instruction::Get(c, f, h) => fields::get_turn(view, t, k, c, f, h),
         Instruction::Put(c, f, h) => fields::put_turn(
-            counts,
-            classes,
-            i,
+            view,
             t,
+            k,
             c,
-            fields::descriptor(b, c, f),
-            k.limit,
-            k.vars,
+            bundle::record_at(b, c).field_at(f),
             f,
             h,
         ),
-        Instruction::Nothing => moves::refused(t, 17),
+        Instruction::Nothing => Err(Answer::BadBundle),
     }
 }
 
-pub fn turn_of<'a>(
-    b: &[u8],
-    objects: u8,
-    counts: &'a [u16],
-    classes: &'a [u8],
-    i: u8,
-    t: Thread,
-    fails: bool,
-) -> Turn
-    ensures { (s : State) → s.objects ≡ objects → s.counts ≡ counts.now → s.classes ≡ classes.now → turned (program_of b.now) s i t result ≡ turn_of (program_of b.now) s i t fails }
+pub fn turn_of(b: &[u8], view: &View, t: Thread, fails: bool) -> Result<Turn, Answer>
+    ensures { (s : State) → s.objects ≡ view.now.objects → s.counts ≡ view.now.counts.now → s.classes ≡ view.now.classes.now → turned (program_of b.now) s view.now.number t result ≡ turn_of (program_of b.now) s view.now.number t fails }
 {
     if !t.live {
-        return moves::refused(t, 5);
+        return Err(Answer::NotLive);
     }
     if 65535 <= t.at.0 {
-        return moves::refused(t, 17);
+        return Err(Answer::BadBundle);
     }
-    let k = bundle::class_at(b, t.class);
-    let r = bundle::part_of(b, k);
-    let x = bundle::instruction_at(k, r, t.at);
-    exec(b, objects, counts, classes, i, t, k, x, fails)
+    let m = bundle::record_at(b, t.class);
+    exec(b, view, t, m.class, m.instruction_at(t.at), fails)
 }

@@ -8,53 +8,46 @@ ghost use Rattle.turns.specs.Waits.{enter_wait};
 ghost use Rattle.turns.specs.Moves.{enter_move, exit_move};
 ghost use Rattle.turns.specs.Turns.{turned};
 
-use crate::{Change, Turn, ends, moves};
+use crate::{Answer, Change, Turn, View, ends, moves};
+use bundle::Class;
 use instructions::{Addr, Var};
 use threads::Thread;
 
 // Null throws object 0, as a failed new does.
-pub(crate) fn enter_turn(
-    counts: &[u16],
-    i: u8,
-    t: Thread,
-    v: Var,
-    limit: u8,
-    vars: u8,
-    h: Addr,
-) -> Turn
+pub(crate) fn enter_turn(view: &View, t: Thread, k: Class, v: Var, h: Addr) -> Result<Turn, Answer>
     requires { t.at.0 < 65535 }
-    ensures { (P : Program) (s : State) → s.counts ≡ counts.now → turned P s i t result ≡ unless_drawn (enter_fault s.counts i t v limit h) s (unless_drawn (enter_wait s.counts i t v) s (enter_move s i t vars v h)) }
+    ensures { (P : Program) (s : State) → s.counts ≡ view.now.counts.now → turned P s view.now.number t result ≡ unless_drawn (enter_fault s.counts view.now.number t v k.limit h) s (unless_drawn (enter_wait s.counts view.now.number t v) s (enter_move s view.now.number t k.vars v h)) }
 {
     let x = threads::var(t, v);
     if values::is_int(x) {
-        return moves::refused(t, 13);
+        return Err(Answer::WrongKind);
     }
     if values::is_null(x) {
-        return ends::throw_turn(counts, i, t, limit, vars, h, values::ref_slot(0));
+        return ends::throw_turn(view, t, k, h, values::ref_slot(0));
     }
     let o = values::object_of(x);
-    let n = state::count(counts, i, o);
+    let n = state::count(view.counts, view.number, o);
     if 2047 <= n {
-        return moves::refused(t, 16);
+        return Err(Answer::CountFull);
     }
-    if !state::others_free(counts, i, o) {
-        return moves::refused(t, 3);
+    if !state::others_free(view.counts, view.number, o) {
+        return Err(Answer::Taken);
     }
-    moves::went_on(t.at, t, Change::Count(o, n + 1))
+    Ok(moves::went_on(t.at, t, Change::Count(o, n + 1)))
 }
 
-pub(crate) fn exit_turn(counts: &[u16], i: u8, t: Thread, v: Var) -> Turn
+pub(crate) fn exit_turn(view: &View, t: Thread, v: Var) -> Result<Turn, Answer>
     requires { t.at.0 < 65535 }
-    ensures { (P : Program) (s : State) → s.counts ≡ counts.now → turned P s i t result ≡ unless_drawn (exit_fault s.counts i t v) s (exit_move s i t v) }
+    ensures { (P : Program) (s : State) → s.counts ≡ view.now.counts.now → turned P s view.now.number t result ≡ unless_drawn (exit_fault s.counts view.now.number t v) s (exit_move s view.now.number t v) }
 {
     let x = threads::var(t, v);
     if !values::is_ref(x) {
-        return moves::refused(t, 13);
+        return Err(Answer::WrongKind);
     }
     let o = values::object_of(x);
-    let n = state::count(counts, i, o);
+    let n = state::count(view.counts, view.number, o);
     if n <= 0 {
-        return moves::refused(t, 14);
+        return Err(Answer::NotHeld);
     }
-    moves::went_on(t.at, t, Change::Count(o, n - 1))
+    Ok(moves::went_on(t.at, t, Change::Count(o, n - 1)))
 }

@@ -9,7 +9,8 @@ ghost use Rattle.turns.specs.Waits.{start_wait};
 ghost use Rattle.turns.specs.Moves.{start_move};
 ghost use Rattle.turns.specs.Turns.{turned};
 
-use crate::{Change, Turn, moves};
+use crate::{Answer, Change, Turn, moves};
+use bundle::Record;
 use threads::Thread;
 use values::Slot;
 
@@ -31,47 +32,47 @@ fn is_argument(classes: &[u8], d: u8, x: Slot) -> bool
     is_object(classes, d, x)
 }
 
-fn argument_at(classes: &[u8], t: Thread, r: &[u8], j: u8) -> bool
-    ensures { result ≡ argument_at classes.now t (at r.now) j }
+// The descriptors of the arguments come first in the record.
+fn argument_at(classes: &[u8], t: Thread, m: &Record, j: u8) -> bool
+    ensures { result ≡ argument_at classes.now t (at m.now.bytes.now) j }
 {
     is_argument(
         classes,
-        ground::byte(r, j as usize),
+        ground::byte(m.bytes, j as usize),
         threads::from_top(t, j),
     )
 }
 
-// `r` is the record of the class, whose descriptors come first.
-fn arguments_ok(classes: &[u8], t: Thread, args: u8, r: &[u8], c: u8) -> bool
-    ensures { result ≡ arguments_ok classes.now t args (at r.now) c }
+fn arguments_ok(classes: &[u8], t: Thread, m: &Record, c: u8) -> bool
+    ensures { result ≡ arguments_ok classes.now t m.now.class.args (at m.now.bytes.now) c }
 {
-    for j in 0..args {
-        if !argument_at(classes, t, r, j) {
+    for j in 0..m.class.args {
+        if !argument_at(classes, t, m, j) {
             return false;
         }
     }
-    is_object(classes, c, threads::from_top(t, args))
+    is_object(classes, c, threads::from_top(t, m.class.args))
 }
 
 // The new thread gets its number where the state is.
-fn start_turn(classes: &[u8], t: Thread, args: u8, r: &[u8], c: u8) -> Turn
+fn start_turn(classes: &[u8], t: Thread, m: &Record, c: u8) -> Result<Turn, Answer>
     requires { t.at.0 < 65535 }
-    ensures { (P : Program) (s : State) (i : ℕ) → s.classes ≡ classes.now → turned P s i t result ≡ unless_drawn (start_fault s.classes t args (at r.now) c) s (unless_drawn (start_wait s) s (start_move s i t args c)) }
+    ensures { (P : Program) (s : State) (i : ℕ) → s.classes ≡ classes.now → turned P s i t result ≡ unless_drawn (start_fault s.classes t m.now.class.args (at m.now.bytes.now) c) s (unless_drawn (start_wait s) s (start_move s i t m.now.class.args c)) }
 {
+    let args = m.class.args;
     if t.depth <= args {
-        return moves::refused(t, 11);
+        return Err(Answer::StackShort);
     }
-    if !arguments_ok(classes, t, args, r, c) {
-        return moves::refused(t, 13);
+    if !arguments_ok(classes, t, m, c) {
+        return Err(Answer::WrongKind);
     }
     let u = threads::pop(t, args + 1);
-    moves::went_on(t.at, u, Change::Begin(c, args))
+    Ok(moves::went_on(t.at, u, Change::Begin(c, args)))
 }
 
-pub(crate) fn start_class(b: &[u8], classes: &[u8], t: Thread, c: u8) -> Turn
+pub(crate) fn start_class(b: &[u8], classes: &[u8], t: Thread, c: u8) -> Result<Turn, Answer>
     requires { t.at.0 < 65535 }
     ensures { (P : Program) (s : State) (i : ℕ) → s.classes ≡ classes.now → turned P s i t result ≡ unless_drawn (start_fault s.classes t (method_at b.now c).args (method_at b.now c).descriptor c) s (unless_drawn (start_wait s) s (start_move s i t (method_at b.now c).args c)) }
 {
-    let k = bundle::class_at(b, c);
-    start_turn(classes, t, k.args, bundle::part_of(b, k), c)
+    start_turn(classes, t, &bundle::record_at(b, c), c)
 }

@@ -1,39 +1,27 @@
 -- The answer: the code's tests on the weight are the definition's on the usage, and its order of refusals is the definition's.
-use mathlib.Core.Path.{◌≡◌, refl, sym, ap, ◌∙◌}
+use mathlib.Core.Path.{◌≡◌, refl, sym, subst, ◌∙◌}
 use mathlib.Core.List.{List}
-use mathlib.Core.Bool.{Bool, true, false, cond, ◌&&◌, false≢true}
-use Prim.Native.Nat.{ℕ, zero, suc, ◌+◌, ◌-◌, ◌^◌, ◌<◌, ◌≤◌}
+use Rattle.std.specs.Prelude.{Option, Some, None}
+use mathlib.Core.Bool.{Bool, true, false, cond, ◌&&◌}
+use Prim.Native.Nat.{ℕ, zero, suc, ◌+◌, ◌<◌, ◌≤◌}
 use native.Mathlib.Nat.{lt_of_not-le}
 use native.Mathlib.Omega.{arith}
-use lib.Dec.{eqb, leb, ltb}
+use lib.Dec.{eqb, leb}
 use lib.ListN.{length}
-use lib.IntN.{pos, negsuc, nat_abs, sub_ℕ, ◌-ℤ◌}
-use borrow.Author.Tests.{le-leb, lt-leb, leb-true, leb-false, ne_eqb}
-use mir.Syntax.{w32}
-use mir.Val.{SFits}
+use lib.IntN.{nat_abs}
+use borrow.Author.Tests.{le-leb, lt-leb, leb-true, leb-false, eq-eqb, ne_eqb, eqb-true}
+use Rattle.std.proofs.lemmas.Option.{none-some}
 use Rattle.ground.specs.Chain.{refuse}
 use Rattle.usages.specs.Usage.{Usage}
 use Rattle.usages.specs.Counts.{min_of, fin_of}
 use Rattle.usage_text.specs.declared.Weight.{Weight}
-use Rattle.usage_text.specs.declared.Taken.{Taken}
 use Rattle.usage_text.specs.Reading.{Read, unread, read, read_text, is_whole}
-use Rattle.usage_text.specs.Weights.{weight_of, taken_of, Low}
-use Rattle.usage_text.specs.Answer.{longest, deepest, any_depth, dip_of, in_range, is_reliable, refusal, told, weighed, usage_of, whole_taken, weight_taken, end_of, answer_of}
+use Rattle.usage_text.specs.Weights.{weight_of, taken_of, whole_of, Low}
+use Rattle.usage_text.specs.Answer.{longest, deepest, any_depth, dip_of, in_range, is_reliable, refusal, told, weighed, usage_of, end_of, answer_of}
 use Rattle.usage_text.proofs.Weights.{dip-is, end_is, end-far, end-near}
 use Rattle.usage_text.proofs.Bounds.{choice-room}
+use Rattle.usage_text.proofs.Turns.{Given, taken_none, taken-some}
 use Rattle.usage_text.proofs.Grammar.{whole-deeper}
-
--- ---- the end as a machine's integer
-apart_fits : (r d : ℕ) → r < 2 ^ 16 → d < 2 ^ 16 → SFits w32 (sub_ℕ r (suc d))
-apart_fits r d h k = go (ltb r (suc d)) refl
-  where
-    go : (t : Bool) → ltb r (suc d) ≡ t → SFits w32 (cond t (negsuc (suc d - suc r)) (pos (r - suc d)))
-    go true e = record { sfits = omega arith }
-    go false e = record { sfits = omega arith }
-
-pub end_fits : (r d : ℕ) → r < 2 ^ 16 → d < 2 ^ 16 → SFits w32 (pos r -ℤ pos d)
-end_fits r zero h k = record { sfits = omega arith }
-end_fits r (suc d) h k = apart_fits r d h (omega arith)
 
 -- ---- the weight's tests
 module _ (w : Weight) where
@@ -89,48 +77,71 @@ weight-answer u =
     ∙ rw (← zero_is u, ← end_is u, ← dip-is u) refl
 
 -- ---- the whole text
-pub whole-taken : (x : Read) → whole_taken (taken_of x) ≡ is_whole x
-unfolding taken_of is_whole
-whole-taken unread = refl
-whole-taken (read u r) = refl
+module _ {t : Option (ℕ × Weight)} (x : Read) (p : t ≡ taken_of x) where
+  pub none-whole : t ≡ None → None ≡ whole_of x
+  unfolding whole_of
+  none-whole q = rw (taken_none x p q)
 
-weight-taken : (x : Read) → is_whole x ≡ true → answer_of (weight_taken (taken_of x)) ≡ weighed x
-unfolding taken_of is_whole weighed
-weight-taken unread e = absurd (false≢true e)
-weight-taken (read u r) e = weight-answer u
+  module _ {n : ℕ} {w : Weight} (q : t ≡ Some (n, w)) where
+    pub some-whole : n ≡ 0 → Some w ≡ whole_of x
+    unfolding whole_of
+    some-whole e = let k = taken-some x p q in rw (k.was, eq-eqb (length k.left) 0 (k.counted ∙ e), k.weighs)
 
-pub low-taken : (d : ℕ) (s : List ℕ) {t : Taken} → length s ≤ 256 → t ≡ taken_of (read_text d s) → Low 256 (weight_taken t)
-unfolding taken_of
-low-taken d s l p = rw p (go (read_text d s) refl)
+    pub more-whole : (n ≡ 0 → ⊥) → None ≡ whole_of x
+    unfolding whole_of
+    more-whole e = let k = taken-some x p q in rw (k.was, ne_eqb (length k.left) 0 (λ z. e (sym k.counted ∙ z)))
+
+-- a usage to its end, or none
+whole-some : {t : Option Weight} {w : Weight} (x : Read) → t ≡ whole_of x → t ≡ Some w → Given x 0 w
+unfolding whole_of
+whole-some unread p q = absurd (none-some _ (sym p ∙ q))
+whole-some {t} {w} (read u r) p q = go (eqb (length r) 0) refl (sym p ∙ q)
   where
-    go : (x : Read) → read_text d s ≡ x → Low 256 (weight_taken (taken_of x))
-    go unread e = record { dip_low = omega arith; rise_low = omega arith }
-    go (read u r) e =
-        let m = choice-room d s u r e in
-        record { dip_low = omega (arith, m.dip_room); rise_low = omega (arith, m.rise_room) }
+    go : (b : Bool) → eqb (length r) 0 ≡ b → cond b (Some (weight_of u)) None ≡ Some w → Given (read u r) 0 w
+    go true e f = record { usage = u; left = r; was = refl; counted = eqb-true (length r) 0 e; weighs = cc }
+    go false e f = absurd (none-some _ f)
+
+whole-none : {t : Option Weight} (x : Read) → t ≡ whole_of x → t ≡ None → is_whole x ≡ false
+unfolding whole_of is_whole
+whole-none unread p q = refl
+whole-none (read u r) p q = go (eqb (length r) 0) (sym p ∙ q)
+  where
+    go : (b : Bool) → cond b (Some (weight_of u)) None ≡ None → b ≡ false
+    go true f = absurd (none-some _ (sym f))
+    go false f = refl
+
+pub whole-low : (d : ℕ) (s : List ℕ) {t : Option Weight} {w : Weight} → length s ≤ 256 → t ≡ whole_of (read_text d s) → t ≡ Some w → Low 256 w
+whole-low d s l p q =
+    let k = whole-some (read_text d s) p q in
+    let m = choice-room d s k.usage k.left k.was in
+    subst (λ (v : Weight). Low 256 v) k.weighs (record { dip_low = omega (arith, m.dip_room); rise_low = omega (arith, m.rise_room) })
+
+given-whole : {x : Read} {w : Weight} → Given x 0 w → (is_whole x ≡ true) × (answer_of w ≡ weighed x)
+unfolding is_whole weighed
+given-whole k = rw (k.was, ← k.weighs) (eq-eqb (length k.left) 0 k.counted, weight-answer k.usage)
 
 module _ (s : List ℕ) where
   pub too_long : longest < length s → refusal 40 ≡ usage_of s
   unfolding usage_of refuse
   too_long h = rw (lt-leb (length s) longest h)
 
-  module _ (short : length s ≤ longest) {t : Taken} (p : t ≡ taken_of (read_text deepest s)) where
-    pub is_usage : whole_taken t ≡ true → answer_of (weight_taken t) ≡ usage_of s
+  module _ (short : length s ≤ longest) {t : Option Weight} (p : t ≡ whole_of (read_text deepest s)) where
+    pub is_usage : {w : Weight} → t ≡ Some w → answer_of w ≡ usage_of s
     unfolding usage_of refuse
-    is_usage e =
-        let h : is_whole (read_text deepest s) ≡ true = sym (ap whole_taken p ∙ whole-taken (read_text deepest s)) ∙ e in
-        rw (le-leb (length s) longest short, whole-deeper deepest any_depth s short h, h, p) (weight-taken (read_text deepest s) h)
+    is_usage q =
+        let h = given-whole (whole-some (read_text deepest s) p q) in
+        rw (le-leb (length s) longest short, whole-deeper deepest any_depth s short h.0, h.0) h.1
 
-    module _ (e : whole_taken t ≡ false) {x : Taken} (q : x ≡ taken_of (read_text any_depth s)) where
-      pub too_deep : whole_taken x ≡ true → refusal 42 ≡ usage_of s
+    module _ (e : t ≡ None) {x : Option Weight} (q : x ≡ whole_of (read_text any_depth s)) where
+      pub too_deep : {w : Weight} → x ≡ Some w → refusal 42 ≡ usage_of s
       unfolding usage_of refuse
       too_deep f =
           rw (
             le-leb (length s) longest short,
-            sym (ap whole_taken q ∙ whole-taken (read_text any_depth s)) ∙ f,
-            sym (ap whole_taken p ∙ whole-taken (read_text deepest s)) ∙ e,
+            (given-whole (whole-some (read_text any_depth s) q f)).0,
+            whole-none (read_text deepest s) p e,
           )
 
-      pub not-usage : whole_taken x ≡ false → refusal 41 ≡ usage_of s
+      pub not-usage : x ≡ None → refusal 41 ≡ usage_of s
       unfolding usage_of refuse
-      not-usage f = rw (le-leb (length s) longest short, sym (ap whole_taken q ∙ whole-taken (read_text any_depth s)) ∙ f)
+      not-usage f = rw (le-leb (length s) longest short, whole-none (read_text any_depth s) q f)

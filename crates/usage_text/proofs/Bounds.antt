@@ -1,33 +1,28 @@
 -- Neither number of a usage is more than its text has bytes, so that no sum in the reader wraps.
 use mathlib.Core.Path.{◌≡◌, refl, ap}
-use mathlib.Core.Logic.{⊎_elim}
 use mathlib.Core.List.{List, [], ◌∷◌, ◌++◌}
-use Prim.Native.Nat.{ℕ, zero, suc, ◌+◌, ◌-◌, ◌≤◌}
+use Prim.Native.Nat.{ℕ, zero, suc, ◌+◌, ◌≤◌}
 use native.Mathlib.Omega.{arith}
 use lib.ListN.{length, length-append}
+use Rattle.std.proofs.Math.Nat.{max-le}
 use Rattle.usages.specs.Usage.{Usage, either, both}
 use Rattle.usage_text.specs.Signs.{ampersand, star, close_sign}
 use Rattle.usage_text.specs.Grammar.{Texts, Joined, single, more, Prefixed, plain, locked, unlocked, bracket, Shuffle, Choice, Inside}
 use Rattle.usage_text.specs.Reading.{Read, read, read_prefixed, read_shuffle, read_choice, read_inside}
 use Rattle.usage_text.specs.declared.Weight.{Weight}
-use Rattle.usage_text.specs.Weights.{greater, after_lock, either_of, both_of, weight_of, Low}
+use Rattle.usage_text.specs.Weights.{after_lock, either_of, both_of, weight_of, Low}
 use Rattle.usage_text.proofs.Sound.{Sound, sound-prefixed, sound-shuffle, sound-choice, sound-inside}
-use Rattle.usage_text.proofs.Weights.{greater-is}
 
 -- no text of P has a number above its length
 abbrev Light : Texts → Type 0
 Light P = (s : List ℕ) (u : Usage) → P s u → Low (length s) (weight_of u)
 
-greater-low : (a b n : ℕ) → a ≤ n → b ≤ n → greater a b ≤ n
-greater-low a b n p q = ⊎_elim (λ g. rw g.0 q) (λ g. rw g.0 p) (greater-is a b)
-
 pub either-low : (n m : ℕ) (w v : Weight) → Low n w → Low m v → Low (n + m) (either_of w v)
 unfolding either_of
 either-low n m w v p q =
     record {
-      dip_low = greater-low w.dip v.dip (n + m) (omega (arith, p.dip_low)) (omega (arith, q.dip_low));
-      rise_low = greater-low (w.rise + (v.dip - w.dip)) (v.rise + (w.dip - v.dip)) (n + m)
-          (omega (arith, p.rise_low, q.dip_low)) (omega (arith, q.rise_low, p.dip_low));
+      dip_low = max-le (omega (arith, p.dip_low)) (omega (arith, q.dip_low));
+      rise_low = max-le (omega (arith, p.rise_low, q.dip_low)) (omega (arith, q.rise_low, p.dip_low));
     }
 
 pub both-low : (n m : ℕ) (w v : Weight) → Low n w → Low m v → Low (n + m) (both_of w v)

@@ -17,7 +17,7 @@ use Rattle.usages.specs.Counts.{min_of, fin_of}
 use Rattle.usages.specs.Steps.{Reliable, Least, Greatest}
 use Rattle.usages.proofs.Whole.{up, down, le_up, up_le, up-eq}
 use Rattle.usages.proofs.Reliability.{min-least, fin-greatest, reliable-zero, zero-reliable}
-use Rattle.usage_text.specs.declared.Reading.{Reading}
+use Rattle.usage_text.specs.Answer.{Reading}
 use Rattle.usage_text.specs.Grammar.{TextOf}
 use Rattle.usage_text.specs.Reading.{Read, read, read_text, is_whole}
 use Rattle.usage_text.specs.Weights.{weight_of}

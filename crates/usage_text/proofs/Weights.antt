@@ -1,31 +1,15 @@
 -- The reader's two numbers are appendix A's: Min is −dip, and Fin is rise − dip.
-use mathlib.Core.Path.{◌≡◌, refl}
-use mathlib.Core.Logic.{◌⊎◌, inl, inr, ⊎_elim}
-use mathlib.Core.Bool.{Bool, true, false, cond}
+use mathlib.Core.Path.{◌≡◌}
+use mathlib.Core.Logic.{⊎_elim}
 use Prim.Native.Nat.{ℕ, ◌+◌, ◌-◌, ◌≤◌}
 use native.Mathlib.Omega.{arith}
-use lib.Dec.{ltb}
 use lib.IntN.{ℤ, pos, negsuc, nat_abs, neg_ℤ, ◌+ℤ◌, ◌-ℤ◌}
-use borrow.Author.Tests.{ltb-true, ltb-false}
+use Rattle.std.specs.Prelude.{max}
 use Rattle.usages.specs.Usage.{Usage, done, lock, unlock, either, both}
 use Rattle.usages.specs.Counts.{least, most, min_of, fin_of}
 use Rattle.usages.proofs.Whole.{up, down, up-eq, sum-up, one_more, one_less, zero-up, zero-down, pos-up, minus-up, least-is, most-is}
-use Rattle.usage_text.specs.Weights.{greater, after_lock, either_of, weight_of}
+use Rattle.usage_text.specs.Weights.{after_lock, either_of, weight_of}
 use Rattle.usage_text.specs.Answer.{dip_of}
-
-pub greater-is : (a b : ℕ) → ((greater a b ≡ b) × (a ≤ b)) ⊎ ((greater a b ≡ a) × (b ≤ a))
-unfolding greater
-greater-is a b = go (ltb a b) refl
-  where
-    go : (t : Bool) → ltb a b ≡ t → ((cond t b a ≡ b) × (a ≤ b)) ⊎ ((cond t b a ≡ a) × (b ≤ a))
-    go true e = inl (refl, omega (arith, ltb-true a b e))
-    go false e = inr (refl, ltb-false a b e)
-
-greater-first : (a b : ℕ) → b ≤ a → greater a b ≡ a
-greater-first a b l = ⊎_elim (λ g. omega (arith, g.0, g.1)) (λ g. g.0) (greater-is a b)
-
-greater-second : (a b : ℕ) → a ≤ b → greater a b ≡ b
-greater-second a b l = ⊎_elim (λ g. g.0) (λ g. omega (arith, g.0, g.1)) (greater-is a b)
 
 -- ---- Min
 pub min-dip : (u : Usage) → up (min_of u) + (weight_of u).dip ≡ down (min_of u)
@@ -44,24 +28,22 @@ min-dip (unlock u) = omega (arith, min-dip u, one_less (min_of u))
 min-dip (either u v) = go (min-dip u) (min-dip v)
   where
     go : up (min_of u) + (weight_of u).dip ≡ down (min_of u) → up (min_of v) + (weight_of v).dip ≡ down (min_of v)
-        → up (least (min_of u) (min_of v)) + greater (weight_of u).dip (weight_of v).dip ≡ down (least (min_of u) (min_of v))
+        → up (least (min_of u) (min_of v)) + max (weight_of u).dip (weight_of v).dip ≡ down (least (min_of u) (min_of v))
     go h k =
         ⊎_elim
-        (λ p. rw (p.0, greater-first (weight_of u).dip (weight_of v).dip (omega (arith, h, k, p.1))) h)
-        (λ p. rw (p.0, greater-second (weight_of u).dip (weight_of v).dip (omega (arith, h, k, p.1))) k)
+        (λ p. rw p.0 (omega (arith, h, k, p.1)))
+        (λ p. rw p.0 (omega (arith, h, k, p.1)))
         (least-is (min_of u) (min_of v))
 min-dip (both u v) = omega (arith, min-dip u, min-dip v, sum-up (min_of u) (min_of v))
 
 -- ---- Fin
 -- the greater end, above the greater dip
 module _ (a b : ℤ) (d r e s : ℕ) (p : up a + d ≡ down a + r) (q : up b + e ≡ down b + s) where
-  higher : up (most a b) + greater d e ≡ down (most a b) + greater (r + (e - d)) (s + (d - e))
+  higher : up (most a b) + max d e ≡ down (most a b) + max (r + (e - d)) (s + (d - e))
   higher =
       ⊎_elim
-      (λ m. rw (m.0, greater-second (r + (e - d)) (s + (d - e)) (omega (arith, p, q, m.1)))
-      (⊎_elim (λ g. rw g.0 (omega (arith, q, g.1))) (λ g. rw g.0 (omega (arith, q, g.1))) (greater-is d e)))
-      (λ m. rw (m.0, greater-first (r + (e - d)) (s + (d - e)) (omega (arith, p, q, m.1)))
-      (⊎_elim (λ g. rw g.0 (omega (arith, p, g.1))) (λ g. rw g.0 (omega (arith, p, g.1))) (greater-is d e)))
+      (λ m. rw m.0 (omega (arith, p, q, m.1)))
+      (λ m. rw m.0 (omega (arith, p, q, m.1)))
       (most-is a b)
 
 fin-rise : (u : Usage) → up (fin_of u) + (weight_of u).dip ≡ down (fin_of u) + (weight_of u).rise

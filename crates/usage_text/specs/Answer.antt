@@ -1,14 +1,20 @@
 -- Q-11: what is answered for a text. specs/Meaning.antt says the same without the reader and without appendix A.
-use Rattle.std.specs.Prelude.{List, Bool, false, ◌&&◌, ℕ, ◌+◌, eqb, leb, length, ℤ, pos, nat_abs, ◌-ℤ◌}
+use Rattle.std.specs.Prelude.{List, Bool, false, ◌&&◌, ℕ, ◌+◌, eqb, leb, length, ℤ, pos, nat_abs, ◌-ℤ◌, Result, Ok, Err}
 use Rattle.ground.specs.Chain.{refuse}
 use Rattle.usages.specs.Usage.{Usage}
 use Rattle.usages.specs.Counts.{min_of, fin_of}
 use Rattle.usage_text.specs.Reading.{Read, unread, read, read_text, is_whole}
-use Rattle.usage_text.specs.Weights.{weight}
 use Rattle.usage_text.specs.declared.Weight.{Weight}
-use Rattle.usage_text.specs.declared.Taken.{Taken}
-use Rattle.usage_text.specs.declared.Taken.TheVariants.{Nothing, Weighed}
-use Rattle.usage_text.specs.declared.Reading.{Reading}
+use Rattle.usage_text.specs.declared.Reading as code
+use Rattle.usage_text.specs.declared.Unread.{Unread}
+use Rattle.usage_text.specs.declared.Unread.TheVariants.{TooLong, NotAUsage, TooDeep, OutOfRange}
+
+-- what is answered: a refusal's number or 0, dip, end, and whether the usage is reliable
+pub record Reading : Type 0 where
+  pub number : ℕ
+  pub dip : ℕ
+  pub end : ℤ
+  pub reliable : Bool
 
 -- "a text of at most 256 bytes"
 abbrev pub longest : ℕ
@@ -57,14 +63,16 @@ usage_of s =
     (refuse (is_whole (read_text deepest s)) (refusal 42)
     (weighed (read_text deepest s))))
 
--- ---- the same by what the code keeps
-abbrev pub whole_taken : Taken → Bool
-whole_taken Nothing = false
-whole_taken (Weighed n w) = eqb n 0
+-- ---- the same by what the code gives
+abbrev pub unread_number : Unread → ℕ
+unread_number TooLong = 40
+unread_number NotAUsage = 41
+unread_number TooDeep = 42
+unread_number OutOfRange = 43
 
-abbrev pub weight_taken : Taken → Weight
-weight_taken Nothing = weight 0 0
-weight_taken (Weighed n w) = w
+abbrev pub reading_in : Result code.Reading Unread → Reading
+reading_in (Ok r) = record { number = 0; dip = r.dip; end = r.end; reliable = r.reliable }
+reading_in (Err e) = refusal (unread_number e)
 
 abbrev pub end_of : ℕ → ℕ → ℤ
 end_of dip rise = pos rise -ℤ pos dip

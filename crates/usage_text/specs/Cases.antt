@@ -2,7 +2,7 @@
 use Rattle.std.specs.Prelude.{List, [], ◌∷◌, ◌++◌, Bool, true, false, ℕ, zero, suc, ℤ, pos, neg_ℤ}
 use Prim.Native.String.{String}
 use Rattle.usages.specs.Usage.{Usage, done, lock, unlock, either, both}
-use Rattle.usage_text.specs.declared.Reading.{Reading}
+use Rattle.usage_text.specs.Answer.{Reading}
 use Rattle.usage_text.specs.Answer.{refusal}
 use Rattle.usage_text.specs.Quoted.{bytes}
 

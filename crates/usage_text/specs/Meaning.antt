@@ -5,7 +5,7 @@ use Rattle.usages.specs.Usage.{Usage}
 use Rattle.usages.specs.Steps.{Reliable, Least, Greatest}
 use Rattle.usage_text.specs.Grammar.{TextOf}
 use Rattle.usage_text.specs.Answer.{longest, deepest, widest, refusal, usage_of}
-use Rattle.usage_text.specs.declared.Reading.{Reading}
+use Rattle.usage_text.specs.Answer.{Reading}
 
 -- d is how far below 0 the steps of u may lead, e is the greatest count at their end, and b is whether u is reliable
 pub record Weighs (u : Usage) (d : ℕ) (e : ℤ) (b : Bool) : Type 0 where

@@ -2,12 +2,12 @@
 // No usage is kept: what is read is weighed on the way.
 #![tactic(auto)]
 
-ghost use Rattle.std.specs.Prelude.{◌≡◌, ◌+◌, ◌-◌, ◌≤◌, length, drop};
+ghost use Rattle.std.specs.Prelude.{◌≡◌, ◌-◌, ◌≤◌, length, drop};
 ghost use Rattle.usages.specs.Usage.{either, both};
 ghost use Rattle.usage_text.specs.Signs.{star, ampersand};
-ghost use Rattle.usage_text.specs.Reading.{head_of, read_prefixed, read_bracket, read_shuffle, read_choice, read_inside};
-ghost use Rattle.usage_text.specs.Weights.{greater, after_lock, after_unlock, either_of, both_of, behind_lock, behind_unlock, taken_of, Low, LowTaken, rest_of, Onward};
-ghost use Rattle.usage_text.specs.Answer.{refusal, whole_taken, weight_taken, end_of, answer_of, usage_of};
+ghost use Rattle.usage_text.specs.Reading.{head_of, read_prefixed, read_bracket, read_shuffle, read_choice, read_inside, read_text};
+ghost use Rattle.usage_text.specs.Weights.{after_lock, after_unlock, either_of, both_of, taken_of, whole_of, Low, rest_of, Onward};
+ghost use Rattle.usage_text.specs.Answer.{end_of, answer_of, reading_in, usage_of};
 
 use ground::{back, byte};
 
@@ -28,43 +28,32 @@ struct Weight {
     pub rise: u16,
 }
 
-// What reading gives: nothing, or how many bytes are left behind the usage, and its weight.
-#[derive(Clone, Copy)]
-enum Taken {
-    Nothing,
-    Weighed(usize, Weight),
-}
-
-// The answer: a refusal's number or 0, dip, end, and whether the usage is reliable.
+// The usage's dip and end, and whether it is reliable.
 #[derive(Clone, Copy)]
 pub struct Reading {
-    pub number: u8,
     pub dip: u8,
     pub end: i32,
     pub reliable: bool,
 }
 
+// Why a text is refused. A text of several faults is refused for the first of them in this order.
+#[derive(Clone, Copy)]
+pub enum Unread {
+    TooLong,
+    NotAUsage,
+    TooDeep,
+    // Its dip or end is outside the entry's range.
+    OutOfRange,
+}
+
 // ---- weights
-fn greater(a: u16, b: u16) -> u16
-    ensures { result ≡ greater a b }
-{
-    if a < b { b } else { a }
-}
-
-fn less(a: u16, b: u16) -> u16
-    ensures { result ≡ a - b }
-{
-    if a < b { 0 } else { a - b }
-}
-
 fn after_lock(w: Weight) -> Weight
     requires { Low 256 w }
     ensures { result ≡ after_lock w }
 {
-    let above = less(1, w.dip);
     Weight {
-        dip: less(w.dip, 1),
-        rise: w.rise + above,
+        dip: w.dip.saturating_sub(1),
+        rise: w.rise + 1u16.saturating_sub(w.dip),
     }
 }
 
@@ -82,11 +71,11 @@ fn either_of(w: Weight, v: Weight) -> Weight
     requires { Low 256 w × Low 256 v }
     ensures { result ≡ either_of w v }
 {
-    let w_lower = less(v.dip, w.dip);
-    let v_lower = less(w.dip, v.dip);
+    let w_lower = v.dip.saturating_sub(w.dip);
+    let v_lower = w.dip.saturating_sub(v.dip);
     Weight {
-        dip: greater(w.dip, v.dip),
-        rise: greater(w.rise + w_lower, v.rise + v_lower),
+        dip: w.dip.max(v.dip),
+        rise: (w.rise + w_lower).max(v.rise + v_lower),
     }
 }
 
@@ -141,220 +130,153 @@ fn rest(s: &[u8], left: usize) -> &[u8]
     behind(s, start)
 }
 
-fn behind_lock(t: Taken) -> Taken
-    requires { LowTaken 256 t }
-    ensures { result ≡ behind_lock t }
-{
-    match t {
-        Taken::Nothing => Taken::Nothing,
-        Taken::Weighed(left, w) => Taken::Weighed(left, after_lock(w)),
-    }
-}
-
-fn behind_unlock(t: Taken) -> Taken
-    requires { LowTaken 256 t }
-    ensures { result ≡ behind_unlock t }
-{
-    match t {
-        Taken::Nothing => Taken::Nothing,
-        Taken::Weighed(left, w) => Taken::Weighed(left, after_unlock(w)),
-    }
-}
+// Each reader gives how many bytes are left behind the usage, and its weight; or nothing.
 
 // 0 or a bracket, behind prefixes; brackets may be nested `depth` deep.
 #[cycle(reading)]
-fn read_prefixed(s: &[u8], depth: usize) -> Taken
+fn read_prefixed(s: &[u8], depth: usize) -> Option<(usize, Weight)>
     requires { length s.now ≤ 256 }
     ensures { result ≡ taken_of (read_prefixed (read_inside depth) s.now) }
 {
-    let h = head_of(s);
-    match h {
+    match head_of(s) {
         Head::Nought => {
             let r = behind(s, 1);
-            Taken::Weighed(r.len(), Weight { dip: 0, rise: 0 })
+            Some((r.len(), Weight { dip: 0, rise: 0 }))
         }
         Head::Lock => {
             let r = behind(s, 2);
-            behind_lock(read_prefixed(r, depth))
+            let (left, w) = read_prefixed(r, depth)?;
+            Some((left, after_lock(w)))
         }
         Head::Unlock => {
             let r = behind(s, 3);
-            behind_unlock(read_prefixed(r, depth))
+            let (left, w) = read_prefixed(r, depth)?;
+            Some((left, after_unlock(w)))
         }
         Head::Open => {
             let r = behind(s, 1);
             read_bracket(r, depth)
         }
-        Head::Other => Taken::Nothing,
+        Head::Other => None,
     }
 }
 
 // What an open bracket holds, and the closing bracket: one level deeper, where there is one.
 #[cycle(reading)]
-fn read_bracket(s: &[u8], depth: usize) -> Taken
+fn read_bracket(s: &[u8], depth: usize) -> Option<(usize, Weight)>
     requires { length s.now ≤ 256 }
     ensures { result ≡ taken_of (read_bracket (read_inside depth) s.now) }
 {
     if depth == 0 {
-        return Taken::Nothing;
+        return None;
     }
-    let t = read_choice(s, depth - 1);
-    match t {
-        Taken::Nothing => Taken::Nothing,
-        Taken::Weighed(left, w) => {
-            let r = rest(s, left);
-            if byte(r, 0) == b')' {
-                Taken::Weighed(r.len() - 1, w)
-            } else {
-                Taken::Nothing
-            }
-        }
+    let (left, w) = read_choice(s, depth - 1)?;
+    let r = rest(s, left);
+    if byte(r, 0) != b')' {
+        return None;
     }
+    Some((r.len() - 1, w))
 }
 
 // Prefixed usages with `*` between them.
 #[cycle(reading)]
-fn read_shuffle(s: &[u8], depth: usize) -> Taken
+fn read_shuffle(s: &[u8], depth: usize) -> Option<(usize, Weight)>
     requires { length s.now ≤ 256 }
     ensures { result ≡ taken_of (read_shuffle (read_inside depth) s.now) }
 {
-    let t = read_prefixed(s, depth);
-    match t {
-        Taken::Nothing => Taken::Nothing,
-        Taken::Weighed(left, w) => {
-            let r = rest(s, left);
-            read_shuffle_on(r, w, depth)
-        }
-    }
+    let (left, w) = read_prefixed(s, depth)?;
+    let r = rest(s, left);
+    read_shuffle_on(r, w, depth)
 }
 
 // Further ones, behind some whose weight is w.
 #[cycle(reading)]
-fn read_shuffle_on(s: &[u8], w: Weight, depth: usize) -> Taken
+fn read_shuffle_on(s: &[u8], w: Weight, depth: usize) -> Option<(usize, Weight)>
     requires { (length s.now ≤ 256) × Low (256 - length s.now) w }
     ensures { Onward star both (read_prefixed (read_inside depth)) s.now w result }
 {
     if byte(s, 0) != b'*' {
-        return Taken::Weighed(s.len(), w);
+        return Some((s.len(), w));
     }
     let b = behind(s, 1);
-    let t = read_prefixed(b, depth);
-    match t {
-        Taken::Nothing => Taken::Nothing,
-        Taken::Weighed(left, v) => {
-            let r = rest(b, left);
-            read_shuffle_on(r, both_of(w, v), depth)
-        }
-    }
+    let (left, v) = read_prefixed(b, depth)?;
+    let r = rest(b, left);
+    read_shuffle_on(r, both_of(w, v), depth)
 }
 
-// Shuffles with `&` between them.
+// Shuffles with `&` between them. With `*` above it is the same, written twice: the four call one another, and a cycle of calls through a closure gets no proof.
 #[cycle(reading)]
-fn read_choice(s: &[u8], depth: usize) -> Taken
+fn read_choice(s: &[u8], depth: usize) -> Option<(usize, Weight)>
     requires { length s.now ≤ 256 }
     ensures { result ≡ taken_of (read_choice (read_inside depth) s.now) }
 {
-    let t = read_shuffle(s, depth);
-    match t {
-        Taken::Nothing => Taken::Nothing,
-        Taken::Weighed(left, w) => {
-            let r = rest(s, left);
-            read_choice_on(r, w, depth)
-        }
-    }
+    let (left, w) = read_shuffle(s, depth)?;
+    let r = rest(s, left);
+    read_choice_on(r, w, depth)
 }
 
 // Further ones, behind some whose weight is w.
 #[cycle(reading)]
-fn read_choice_on(s: &[u8], w: Weight, depth: usize) -> Taken
+fn read_choice_on(s: &[u8], w: Weight, depth: usize) -> Option<(usize, Weight)>
     requires { (length s.now ≤ 256) × Low (256 - length s.now) w }
     ensures { Onward ampersand either (read_shuffle (read_inside depth)) s.now w result }
 {
     if byte(s, 0) != b'&' {
-        return Taken::Weighed(s.len(), w);
+        return Some((s.len(), w));
     }
     let b = behind(s, 1);
-    let t = read_shuffle(b, depth);
-    match t {
-        Taken::Nothing => Taken::Nothing,
-        Taken::Weighed(left, v) => {
-            let r = rest(b, left);
-            read_choice_on(r, either_of(w, v), depth)
-        }
-    }
+    let (left, v) = read_shuffle(b, depth)?;
+    let r = rest(b, left);
+    read_choice_on(r, either_of(w, v), depth)
 }
 
 // ---- the answer
-fn whole_taken(t: Taken) -> bool
-    ensures { result ≡ whole_taken t }
+// The weight of a text that is a usage to its end.
+fn read_whole(text: &[u8], depth: usize) -> Option<Weight>
+    requires { length text.now ≤ 256 }
+    ensures { result ≡ whole_of (read_text depth text.now) }
 {
-    match t {
-        Taken::Nothing => false,
-        Taken::Weighed(left, _) => left == 0,
+    let (left, w) = read_choice(text, depth)?;
+    if left != 0 {
+        return None;
     }
+    Some(w)
 }
 
-fn weight_taken(t: Taken) -> Weight
-    ensures { result ≡ weight_taken t }
+fn end_of(w: Weight) -> i32
+    ensures { result ≡ end_of w.dip w.rise }
 {
-    match t {
-        Taken::Nothing => Weight { dip: 0, rise: 0 },
-        Taken::Weighed(_, w) => w,
-    }
+    (w.rise as i32) - (w.dip as i32)
 }
 
-fn refusal(number: u8) -> Reading
-    ensures { result ≡ refusal number }
-{
-    Reading {
-        number,
-        dip: 0,
-        end: 0,
-        reliable: false,
-    }
-}
-
-fn end_of(dip: u16, rise: u16) -> i32
-    ensures { result ≡ end_of dip rise }
-{
-    (rise as i32) - (dip as i32)
-}
-
-// 43 where a number is outside the entry's range. No end is below −dip, so with a dip of 63 none is below −63.
-fn answer(w: Weight) -> Reading
+// No end is below −dip, so with a dip of 63 none is below −63.
+fn answer(w: Weight) -> Result<Reading, Unread>
     requires { Low 256 w }
-    ensures { result ≡ answer_of w }
+    ensures { reading_in result ≡ answer_of w }
 {
-    if 63 < w.dip {
-        return refusal(43);
+    if 63 < w.dip || w.dip + 63 < w.rise {
+        return Err(Unread::OutOfRange);
     }
-    if w.dip + 63 < w.rise {
-        return refusal(43);
-    }
-    let end = end_of(w.dip, w.rise);
-    Reading {
-        number: 0,
+    Ok(Reading {
         dip: w.dip as u8,
-        end,
+        end: end_of(w),
         reliable: (w.dip == 0) & (w.rise == 0),
-    }
+    })
 }
 
 // The text's usage: its dip and end, and whether it is reliable; or why it is refused.
 // A text that is no usage with 16 brackets open may be one with more: then it is too deep, else it is no usage at all. 256 bytes have room for 127.
-pub fn usage(text: &[u8]) -> Reading
-    ensures { result ≡ usage_of text.now }
+pub fn usage(text: &[u8]) -> Result<Reading, Unread>
+    ensures { reading_in result ≡ usage_of text.now }
 {
     if 256 < text.len() {
-        return refusal(40);
+        return Err(Unread::TooLong);
     }
-    let shallow = read_choice(text, 16);
-    if whole_taken(shallow) {
-        return answer(weight_taken(shallow));
+    if let Some(w) = read_whole(text, 16) {
+        return answer(w);
     }
-    let deep = read_choice(text, 127);
-    if whole_taken(deep) {
-        return refusal(42);
+    match read_whole(text, 127) {
+        Some(_) => Err(Unread::TooDeep),
+        None => Err(Unread::NotAUsage),
     }
-    refusal(41)
 }

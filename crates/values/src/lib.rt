@@ -1,10 +1,12 @@
 // A value of the machine, and what the instructions do with one.
 #![tactic(auto)]
 
-ghost use Rattle.std.specs.Prelude.{◌≡◌, not};
-ghost use Rattle.values.specs.Values.{inc_of, is_pos, zero_slot, ref_slot, null_slot, number_of, int_slot, bits_of, bits_of_slot, is_int, is_null, is_ref, object_of, inc_value, inc_slot, jumps, refers};
+ghost use Rattle.std.specs.Prelude.{◌≡◌};
+ghost use Rattle.values.specs.Values.{zero_slot, ref_slot, null_slot, int_slot, bits_of_slot, is_int, is_null, is_ref, object_of, inc_slot, jumps, refers};
 
-#[derive(Clone, Copy)]
+use std::fmt;
+
+#[derive(Clone, Copy, PartialEq, Eq)]
 pub enum Value {
     Int(i32),
     Ref(u8),
@@ -12,9 +14,20 @@ pub enum Value {
 }
 
 // A place that holds a value.
-#[derive(Clone, Copy)]
+#[derive(Clone, Copy, PartialEq, Eq)]
 pub struct Slot {
     pub value: Value,
+}
+
+// An integer as i and the number, a reference as r and the object's number.
+impl fmt::Display for Slot {
+    fn fmt<W: fmt::Write>(&self, f: &mut fmt::Formatter<W>) -> fmt::Result {
+        match self.value {
+            Value::Int(z) => write!(f, "i{z}"),
+            Value::Ref(o) => write!(f, "r{o}"),
+            Value::Null => f.write_str("null"),
+        }
+    }
 }
 
 pub fn zero_slot() -> Slot
@@ -39,138 +52,73 @@ pub fn null_slot() -> Slot
     Slot { value: Value::Null }
 }
 
-fn number(w: u32) -> i32
-    ensures { result ≡ number_of w }
-{
-    if w < 2147483648 {
-        return w as i32;
-    }
-    -1 - ((4294967295 - w) as i32)
-}
-
 // An integer from its 32 bits.
 pub fn int_slot(w: u32) -> Slot
     ensures { result ≡ int_slot w }
 {
-    let z = number(w);
     Slot {
-        value: Value::Int(z),
+        value: Value::Int(w.cast_signed()),
     }
-}
-
-fn bits(z: i32) -> u32
-    ensures { result ≡ bits_of z }
-{
-    if z < 0 {
-        return 4294967295 - ((-1 - z) as u32);
-    }
-    z as u32
 }
 
 pub fn bits_of(x: Slot) -> u32
     ensures { result ≡ bits_of_slot x }
 {
-    let v = x.value;
-    match v {
-        Value::Int(z) => bits(z),
-        Value::Ref(_) => 0,
-        Value::Null => 0,
+    if let Value::Int(z) = x.value {
+        z.cast_unsigned()
+    } else {
+        0
     }
 }
 
 pub fn is_int(x: Slot) -> bool
     ensures { result ≡ is_int x }
 {
-    let v = x.value;
-    match v {
-        Value::Int(_) => true,
-        Value::Ref(_) => false,
-        Value::Null => false,
-    }
+    matches!(x.value, Value::Int(_))
 }
 
 pub fn is_null(x: Slot) -> bool
     ensures { result ≡ is_null x }
 {
-    let v = x.value;
-    match v {
-        Value::Int(_) => false,
-        Value::Ref(_) => false,
-        Value::Null => true,
-    }
+    matches!(x.value, Value::Null)
 }
 
 pub fn is_ref(x: Slot) -> bool
     ensures { result ≡ is_ref x }
 {
-    let v = x.value;
-    match v {
-        Value::Int(_) => false,
-        Value::Ref(_) => true,
-        Value::Null => false,
-    }
+    matches!(x.value, Value::Ref(_))
 }
 
 pub fn object_of(x: Slot) -> u8
     ensures { result ≡ object_of x }
 {
-    let v = x.value;
-    match v {
-        Value::Int(_) => 0,
-        Value::Ref(o) => o,
-        Value::Null => 0,
-    }
+    if let Value::Ref(o) = x.value { o } else { 0 }
 }
 
 // inc wraps
-fn inc(x: i32) -> i32
-    ensures { result ≡ inc_of x }
-{
-    if x == 2147483647 { -2147483648 } else { x + 1 }
-}
-
-fn inc_value(v: Value) -> Value
-    ensures { result ≡ inc_value v }
-{
-    match v {
-        Value::Int(x) => Value::Int(inc(x)),
-        Value::Ref(o) => Value::Ref(o),
-        Value::Null => Value::Null,
-    }
-}
-
 pub fn inc_slot(x: Slot) -> Slot
     ensures { result ≡ inc_slot x }
 {
-    let v = x.value;
-    let w = inc_value(v);
-    Slot { value: w }
-}
-
-fn isnt_zero(x: i32) -> bool
-    ensures { result ≡ not (is_pos 0 x) }
-{
-    x != 0
+    if let Value::Int(z) = x.value {
+        Slot {
+            value: Value::Int(z.wrapping_add(1)),
+        }
+    } else {
+        x
+    }
 }
 
 pub fn jumps(x: Slot) -> bool
     ensures { result ≡ jumps x }
 {
-    let v = x.value;
-    match v {
-        Value::Int(z) => isnt_zero(z),
-        Value::Ref(_) => false,
-        Value::Null => false,
-    }
+    matches!(x.value, Value::Int(z) if z != 0)
 }
 
 pub fn refers(objects: u8, x: Slot) -> bool
     ensures { result ≡ refers objects x }
 {
-    let v = x.value;
-    match v {
-        Value::Int(_) => true,
+    match x.value {
         Value::Ref(o) => o < objects,
-        Value::Null => true,
+        _ => true,
     }
 }

@@ -13,26 +13,23 @@
 //   N a count, L a held word, O the number of objects, C the class of an object, H a field place: object, field, value;
 //   M steps: thread, new fails, how many; F the fresh machine; X the pairs worked out;
 //   and what is wanted: S a verdict on the structure, J the verifier's, Q a record, G what the machine gives, A how many objects a thread holds, Y what working the pairs out gives.
-use crate::numbers::NONE;
 use crate::{numbers, words};
 
-// A step as far as it was read: its capital, its numbers and how many there are, the place after them, and whether all was as its form says.
+// A step as far as it was read: its capital, its numbers and how many there are, and the place after them. The numbers stand in an array, since no part of the program allocates.
 #[derive(Clone, Copy)]
 pub(crate) struct Step {
     pub of: u8,
     pub numbers: [u32; 16],
     pub count: usize,
     pub at: usize,
-    pub sound: bool,
 }
 
 fn start() -> Step {
     Step {
         of: 0,
-        numbers: [0u32; 16],
+        numbers: [0; 16],
         count: 0,
         at: 0,
-        sound: true,
     }
 }
 
@@ -40,88 +37,85 @@ fn pushed(r: Step, n: u64) -> Step {
     let mut next = r;
     let k = r.count;
     if k < 16 {
-        next.numbers[k] = (n % NONE) as u32;
+        next.numbers[k] = (n % 4294967296) as u32;
         next.count = k + 1;
     }
     next
 }
 
 // What is left after a word.
-fn past(r: Step, w: &[u8], known: bool) -> Step {
+fn past(r: Step, w: &[u8]) -> Step {
     let mut next = r;
     next.at = std::num::wrapping_add_usize(std::num::wrapping_add_usize(r.at, w.len()), 1);
-    next.sound = r.sound & known;
     next
 }
 
 // The next word as a number, or as the two bytes of one.
-fn by_word(r: Step, s: &[u8], letter: u8) -> Step {
+fn by_word(r: Step, s: &[u8], letter: u8) -> Option<Step> {
     let w = words::piece(s, r.at, b' ');
-    let n = numbers::number(letter, w);
-    let next = past(r, w, n < NONE);
+    let n = numbers::number(letter, w)?;
+    let next = past(r, w);
     if (letter == b'h') | (letter == b'a') {
-        return pushed(pushed(next, n / 256), n % 256);
+        return Some(pushed(pushed(next, n / 256), n % 256));
     }
-    pushed(next, n)
+    Some(pushed(next, n))
 }
 
-fn by_letter(r: Step, s: &[u8], letter: u8) -> Step {
+fn by_letter(r: Step, s: &[u8], letter: u8) -> Option<Step> {
     match letter {
-        b'0'..=b'9' => pushed(r, (letter - 48) as u64),
-        b'A'..=b'Z' => pushed(r, letter as u64),
-        b'e' | b'v' => r,
+        b'0'..=b'9' => Some(pushed(r, (letter - b'0') as u64)),
+        b'A'..=b'Z' => Some(pushed(r, letter as u64)),
+        b'e' | b'v' => Some(r),
         _ => by_word(r, s, letter),
     }
 }
 
-fn by_form(r: Step, s: &[u8], form: &[u8]) -> Step {
+fn by_form(r: Step, s: &[u8], form: &[u8]) -> Option<Step> {
     let mut next = r;
-    for i in 0..form.len() {
-        next = by_letter(next, s, ground::byte(form, i));
+    for letter in form {
+        next = by_letter(next, s, *letter)?;
     }
-    next
+    Some(next)
 }
 
-// The form of a word in a table of lines, each a word, a space and its form; it is empty where the table has no such word.
-fn form_of<'a>(table: &'a [u8], w: &[u8]) -> &'a [u8] {
+// The form of a word in a table of lines, each a word, a space and its form, if the table has the word.
+fn form_of<'a>(table: &'a [u8], w: &[u8]) -> Option<&'a [u8]> {
     let mut at = 0;
     while at < table.len() {
         let end = words::upto(table, at, b'\n');
         let form = words::after_word(&table[at..end], w);
         if 0 < form.len() {
-            return form;
+            return Some(form);
         }
         at = end + 1;
     }
-    words::first(table, 0)
+    None
 }
 
-fn by_table(r: Step, s: &[u8], table: &[u8]) -> Step {
+fn by_table(r: Step, s: &[u8], table: &[u8]) -> Option<Step> {
     let w = words::piece(s, r.at, b' ');
-    let form = form_of(table, w);
-    by_form(past(r, w, 0 < form.len()), s, form)
+    by_form(past(r, w), s, form_of(table, w)?)
 }
 
 // An entry is four bytes; a value is 0 and an integer, 1 and an object, or 2 and 0: null.
-fn by_last(r: Step, s: &[u8], letter: u8) -> Step {
+fn by_last(r: Step, s: &[u8], letter: u8) -> Option<Step> {
     match letter {
         b'e' => by_table(r, s, b"int 1000\ntop 2000\nref 3bbd\nnull 4b00\nraw bbbb\n"),
         b'v' => by_table(r, s, b"int 0i\nref 1b\nnull 20\n"),
-        _ => r,
+        _ => Some(r),
     }
 }
 
 // A step's form says what all of it is.
-fn by_whole(s: &[u8], w: &[u8], form: &[u8]) -> Step {
-    let first = by_form(past(start(), w, 0 < form.len()), s, words::from(form, 1));
-    let r = by_last(first, s, ground::byte(form, ground::back(form, 1)));
-    let mut next = r;
-    next.of = ground::byte(form, 0);
-    next.sound = r.sound & (s.len() < r.at);
-    next
+fn by_whole(s: &[u8], w: &[u8], form: &[u8]) -> Option<Step> {
+    let first = by_form(past(start(), w), s, words::from(form, 1))?;
+    let mut r = by_last(first, s, ground::byte(form, ground::back(form, 1)))?;
+    r.of = ground::byte(form, 0);
+    if s.len() < r.at { Some(r) } else { None }
 }
 
-pub(crate) fn read(s: &[u8]) -> Step {
+// A step, if all of it is as its form says.
+pub(crate) fn read(s: &[u8]) -> Option<Step> {
     let w = words::piece(s, 0, b' ');
     let form = form_of(
         b"byte Ww1b
@@ -163,6 +157,6 @@ holds Abbb
 filled Ybbw
 ",
         w,
-    );
+    )?;
     by_whole(s, w, form)
 }

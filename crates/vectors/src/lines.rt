@@ -38,12 +38,23 @@ fn case(
     Ok(counted(t, right))
 }
 
-// 1 where a line says what the cases after it are given, 0 where it is a case.
-fn kind(line: &[u8]) -> u64 {
-    if line.len() == 0 {
-        return 2;
+// What a line is to the cases: what those after it are given, one of them, or neither.
+#[derive(Clone, Copy)]
+enum Line {
+    Given,
+    Case,
+    Aside,
+}
+
+fn kind(line: &[u8]) -> Line {
+    if line.is_empty() {
+        return Line::Aside;
     }
-    words::place_in(b"given define #", words::piece(line, 0, b' '))
+    match words::place_in(b"given define #", words::piece(line, 0, b' ')) {
+        Some(1) => Line::Given,
+        Some(_) => Line::Aside,
+        None => Line::Case,
+    }
 }
 
 fn cases_of(out: &mut impl Write, text: &[u8]) -> io::Result<Tally> {
@@ -52,18 +63,18 @@ fn cases_of(out: &mut impl Write, text: &[u8]) -> io::Result<Tally> {
     let mut at = 0;
     while at < text.len() {
         let end = words::upto(text, at, b'\n');
-        let k = kind(&text[at..end]);
-        if k == 1 {
-            last = at;
-        }
-        if k == 0 {
-            t = case(
-                out,
-                t,
-                text,
-                words::piece(text, last, b'\n'),
-                &text[at..end],
-            )?;
+        match kind(&text[at..end]) {
+            Line::Given => last = at,
+            Line::Case => {
+                t = case(
+                    out,
+                    t,
+                    text,
+                    words::piece(text, last, b'\n'),
+                    &text[at..end],
+                )?;
+            }
+            Line::Aside => {}
         }
         at = end + 1;
     }

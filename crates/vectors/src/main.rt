@@ -3,7 +3,6 @@
 #![tactic(auto)]
 
 mod build;
-mod equal;
 mod fillings;
 mod grammar;
 mod lines;

@@ -1,10 +1,10 @@
 // Steps of the machine, from the state that a case has put together.
 use state::State;
-use turns::Stepped;
+use turns::{Answer, Stepped};
 
 fn steps(b: &[u8], s: State, thread: u8, fails: bool, n: u32) -> Stepped {
     let mut came = Stepped {
-        answer: 0,
+        answer: Answer::WentOn,
         state: s,
     };
     for _ in 0..n {

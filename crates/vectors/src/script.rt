@@ -18,18 +18,22 @@ fn after_space(s: &[u8], at: usize) -> usize
     at
 }
 
+// Nothing once a step is none, or not at its place.
 fn steps(
     out: &mut impl Write,
-    p: Setting,
+    p: Option<Setting>,
     b: &mut Buffer,
     s: &[u8],
     name: &[u8],
-) -> io::Result<Setting> {
+) -> io::Result<Option<Setting>> {
     let mut next = p;
     let mut at = 0;
     while at < s.len() {
+        let Some(now) = next else {
+            return Ok(None);
+        };
         let end = words::upto(s, at, b';');
-        next = setting::step(out, next, b, &s[at..end], name)?;
+        next = setting::step(out, now, b, &s[at..end], name)?;
         at = after_space(s, end + 1);
     }
     Ok(next)
@@ -55,39 +59,39 @@ fn after_first<'a>(s: &'a [u8]) -> &'a [u8] {
 
 fn defines(line: &[u8], name: &[u8]) -> bool {
     let one = words::piece(line, 0, b';');
-    words::same(words::after_word(one, b"define"), name)
+    words::after_word(one, b"define") == name
 }
 
-// The steps that define a bundle of that name; they are empty where no line of the text does.
-fn definition<'a>(text: &'a [u8], name: &[u8]) -> &'a [u8] {
+// The steps that define a bundle of that name, if a line of the text does.
+fn definition<'a>(text: &'a [u8], name: &[u8]) -> Option<&'a [u8]> {
     let mut at = 0;
     while at < text.len() {
         let end = words::upto(text, at, b'\n');
         if defines(&text[at..end], name) {
-            return after_first(&text[at..end]);
+            return Some(after_first(&text[at..end]));
         }
         at = end + 1;
     }
-    words::first(text, 0)
+    None
 }
 
 // The steps of a line, of which the first may name a bundle.
 fn laid(
     out: &mut impl Write,
-    p: Setting,
+    p: Option<Setting>,
     b: &mut Buffer,
     text: &[u8],
     s: &[u8],
     name: &[u8],
-) -> io::Result<Setting> {
+) -> io::Result<Option<Setting>> {
     let bundle = words::after_word(words::piece(s, 0, b';'), b"bundle");
-    if bundle.len() == 0 {
+    if bundle.is_empty() {
         return steps(out, p, b, s, name);
     }
-    let known = definition(text, bundle);
-    if known.len() == 0 {
-        return setting::unsound(out, p, name, bundle);
-    }
+    let known = match definition(text, bundle) {
+        Some(known) if !known.is_empty() => known,
+        _ => return setting::unsound(out, name, bundle),
+    };
     let next = steps(out, p, b, known, name)?;
     steps(out, next, b, after_first(s), name)
 }
@@ -102,7 +106,9 @@ pub(crate) fn holds(
 ) -> io::Result<bool> {
     let mut b = [0u8; 131072];
     let last = last_step(own);
-    let p = laid(out, setting::start(), &mut b, text, common, name)?;
-    let p = laid(out, p, &mut b, text, words::first(own, last), name)?;
-    setting::ends(out, p, &b, words::from(own, last), name)
+    let p = laid(out, Some(setting::start()), &mut b, text, common, name)?;
+    match laid(out, p, &mut b, text, words::first(own, last), name)? {
+        Some(p) => setting::ends(out, p, &b, words::from(own, last), name),
+        None => Ok(false),
+    }
 }

@@ -5,46 +5,37 @@ use crate::{build, fillings, grammar, report, runs, states, wants, words};
 use state::State;
 use std::io;
 use std::io::Write;
-use structure::Verdict;
 use turns::Stepped;
+use verdicts::Verdict;
 
-// What the steps have come to: the bundle's length, the state put together, what the machine's last step gave, what working the pairs out gave and of how many bytes, and whether each was a step.
+// What the steps have come to: the bundle's length, the state put together, what the machine's last step gave, if there was one, what working the pairs out gave and of how many bytes.
 #[derive(Clone, Copy)]
 pub(crate) struct Setting {
     pub length: usize,
     pub state: State,
-    pub came: Stepped,
-    pub filled: Verdict,
+    pub came: Option<Stepped>,
+    pub filled: Option<Verdict>,
     pub left: usize,
-    pub sound: bool,
 }
 
 pub(crate) fn start() -> Setting {
-    let blank = states::blank();
     Setting {
         length: 0,
-        state: blank,
-        came: Stepped {
-            answer: 255,
-            state: blank,
-        },
-        filled: fillings::none(),
+        state: states::blank(),
+        came: None,
+        filled: None,
         left: 0,
-        sound: true,
     }
 }
 
 // A step that is none, or not at its place.
 pub(crate) fn unsound(
     out: &mut impl Write,
-    p: Setting,
     name: &[u8],
     step: &[u8],
-) -> io::Result<Setting> {
+) -> io::Result<Option<Setting>> {
     report::wrong(out, name, b" has no such step: ", step)?;
-    let mut next = p;
-    next.sound = false;
-    Ok(next)
+    Ok(None)
 }
 
 // A step that changes the bundle or the state, or one of the machine.
@@ -60,8 +51,7 @@ fn act(p: Setting, b: &mut Buffer, r: Step) -> Setting {
             build::write(b, r);
         }
         b'M' | b'F' => {
-            let came = runs::moved(words::first(b, p.length), p.state, of, v);
-            next.came = came;
+            next.came = Some(runs::moved(words::first(b, p.length), p.state, of, v));
         }
         b'X' => {
             next.filled = fillings::fill(b, p.length);
@@ -79,21 +69,18 @@ fn is_wanted(of: u8) -> bool {
     (of == b'S') | (of == b'J') | (of == b'Q') | (of == b'G') | (of == b'A') | (of == b'Y')
 }
 
+// Nothing where the step is none, or not at its place.
 pub(crate) fn step(
     out: &mut impl Write,
     p: Setting,
     b: &mut Buffer,
     s: &[u8],
     name: &[u8],
-) -> io::Result<Setting> {
-    if !p.sound {
-        return Ok(p);
+) -> io::Result<Option<Setting>> {
+    match grammar::read(s) {
+        Some(r) if !is_wanted(r.of) => Ok(Some(act(p, b, r))),
+        _ => unsound(out, name, s),
     }
-    let r = grammar::read(s);
-    if !r.sound | is_wanted(r.of) {
-        return unsound(out, p, name, s);
-    }
-    Ok(act(p, b, r))
 }
 
 fn met(out: &mut impl Write, p: Setting, whole: &Buffer, r: Step, name: &[u8]) -> io::Result<bool> {
@@ -101,8 +88,8 @@ fn met(out: &mut impl Write, p: Setting, whole: &Buffer, r: Step, name: &[u8]) -
     let v = r.numbers;
     let of = r.of;
     match of {
-        b'S' => wants::verdict(out, name, structure::structure(b), v),
-        b'J' => wants::verdict(out, name, verifier::verify(b), v),
+        b'S' => wants::verdict(out, name, verdicts::in_numbers(structure::structure(b)), v),
+        b'J' => wants::verdict(out, name, verdicts::in_numbers(verifier::verify(b)), v),
         b'Q' => wants::record(out, name, b, v),
         b'A' => wants::holds(out, name, b, p.state, v),
         b'Y' => wants::filled(
@@ -124,13 +111,11 @@ pub(crate) fn ends(
     s: &[u8],
     name: &[u8],
 ) -> io::Result<bool> {
-    if !p.sound {
-        return Ok(false);
+    match grammar::read(s) {
+        Some(r) if is_wanted(r.of) => met(out, p, b, r, name),
+        _ => {
+            report::wrong(out, name, b" wants no such thing: ", s)?;
+            Ok(false)
+        }
     }
-    let r = grammar::read(s);
-    if r.sound & is_wanted(r.of) {
-        return met(out, p, b, r, name);
-    }
-    report::wrong(out, name, b" wants no such thing: ", s)?;
-    Ok(false)
 }

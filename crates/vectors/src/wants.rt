@@ -1,19 +1,17 @@
 // What a case wants, compared with what the code gives; where they differ, a line says so.
-use crate::{equal, report};
+use crate::{report, states};
 use state::State;
 use std::io;
 use std::io::Write;
-use structure::Verdict;
 use turns::Stepped;
+use verdicts::Verdict;
 
 fn is(out: &mut impl Write, name: &[u8], got: [u32; 4], want: [u32; 4]) -> io::Result<bool> {
-    for i in 0..4usize {
-        if got[i] != want[i] {
-            report::other(out, name, got, want)?;
-            return Ok(false);
-        }
+    if got == want {
+        return Ok(true);
     }
-    Ok(true)
+    report::other(out, name, got, want)?;
+    Ok(false)
 }
 
 // Number, class, address, why; of a verdict on the structure why is left out, and 0.
@@ -68,42 +66,50 @@ pub(crate) fn holds(
     s: State,
     v: [u32; 16],
 ) -> io::Result<bool> {
-    let got = holding::held(b, s, (v[0] % 256) as u8);
-    is(
-        out,
-        name,
-        [got.answer as u32, got.number as u32, 0, 0],
-        [v[1], v[2], 0, 0],
-    )
+    let got = match holding::held(b, s, (v[0] % 256) as u8) {
+        Ok(number) => [0, number as u32, 0, 0],
+        Err(answer) => [answer.number() as u32, 0, 0, 0],
+    };
+    is(out, name, got, [v[1], v[2], 0, 0])
 }
 
-// The answer, and the state in every place.
+// The answer, and the state in every place. With no step there is the answer 255, which no step gives.
 pub(crate) fn stepped(
     out: &mut impl Write,
     name: &[u8],
-    got: Stepped,
+    came: Option<Stepped>,
     s: State,
     v: [u32; 16],
 ) -> io::Result<bool> {
-    if !is(out, name, [got.answer as u32, 0, 0, 0], [v[0], 0, 0, 0])? {
+    let (answer, state) = match came {
+        Some(got) => (got.answer.number(), got.state),
+        None => (255, states::blank()),
+    };
+    if !is(out, name, [answer as u32, 0, 0, 0], [v[0], 0, 0, 0])? {
         return Ok(false);
     }
-    if equal::same_state(got.state, s) {
+    if state == s {
         return Ok(true);
     }
     report::wrong(out, name, b" gives another state", b"")?;
     Ok(false)
 }
 
-// The verdict, and whether the bundle is left as the one put together.
+// The verdict, and whether the bundle is left as the one put together. Where no pairs were worked out there is the number 255, which no verdict has.
 pub(crate) fn filled(
     out: &mut impl Write,
     name: &[u8],
-    got: Verdict,
+    got: Option<Verdict>,
     v: [u32; 16],
     same: bool,
 ) -> io::Result<bool> {
-    if !verdict(out, name, got, v)? {
+    let none = Verdict {
+        number: 255,
+        class: 0,
+        address: 0,
+        why: 0,
+    };
+    if !verdict(out, name, got.unwrap_or(none), v)? {
         return Ok(false);
     }
     if same {

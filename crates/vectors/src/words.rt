@@ -1,31 +1,18 @@
 // Parts of a text: a text is lines, a line is steps, a step is words.
 ghost use Rattle.std.specs.Prelude.{◌≤◌, length};
 
+// A text is gone through word by word, each as long as it is, so no range goes over the places: here and in `script`, `lines` and `grammar`.
 // The index of the first such byte from a place on, or the length where there is none.
 pub(crate) fn upto(s: &[u8], at: usize, stop: u8) -> usize
     requires { at ≤ length s.now }
     ensures { (at ≤ result) × (result ≤ length s.now) }
 {
-    let mut i = at;
-    while i < s.len() {
+    for i in at..s.len() {
         if s[i] == stop {
             return i;
         }
-        i += 1;
     }
-    i
-}
-
-pub(crate) fn same(a: &[u8], b: &[u8]) -> bool {
-    if a.len() != b.len() {
-        return false;
-    }
-    for i in 0..a.len() {
-        if ground::byte(a, i) != ground::byte(b, i) {
-            return false;
-        }
-    }
-    true
+    s.len()
 }
 
 // The part from a place on; it is empty where there is no such place.
@@ -53,23 +40,23 @@ pub(crate) fn piece<'a>(s: &'a [u8], at: usize, stop: u8) -> &'a [u8] {
 
 // What follows such a word and a space at the start of a line; it is empty where the line begins otherwise.
 pub(crate) fn after_word<'a>(line: &'a [u8], w: &[u8]) -> &'a [u8] {
-    if same(piece(line, 0, b' '), w) {
+    if piece(line, 0, b' ') == w {
         return from(line, std::num::wrapping_add_usize(w.len(), 1));
     }
     first(line, 0)
 }
 
-// The place of a word among words that are parted by spaces, from 1; 0 where it is none of them.
-pub(crate) fn place_in(list: &[u8], w: &[u8]) -> u64 {
+// The place of a word among words that are parted by spaces, from 1, if it is one of them.
+pub(crate) fn place_in(list: &[u8], w: &[u8]) -> Option<u64> {
     let mut at = 0;
     let mut place: u64 = 1;
     while at < list.len() {
         let end = upto(list, at, b' ');
-        if same(&list[at..end], w) {
-            return place;
+        if &list[at..end] == w {
+            return Some(place);
         }
         place = std::num::wrapping_add_u64(place, 1);
         at = end + 1;
     }
-    0
+    None
 }

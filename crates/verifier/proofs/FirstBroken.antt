@@ -1,6 +1,6 @@
 -- `verdict_of` judges all places of a bundle; and the code's searches are of parts of their list.
 use mathlib.Core.List.{List, [], ◌∷◌, ◌++◌, map}
-use mathlib.Core.Path.{◌≡◌, refl, sym, ap, ◌∙◌}
+use mathlib.Core.Path.{◌≡◌, refl, ap, ◌∙◌}
 use mathlib.Core.Logic.{inl, inr, ⊎_elim}
 use mathlib.Core.Bool.{true, false, not}
 use Prim.Native.Nat.{ℕ, ◌+◌, ◌-◌, ◌<◌}
@@ -8,13 +8,13 @@ use native.Mathlib.Omega.{arith}
 use lib.Dec.{eqb}
 use borrow.Author.Tests.{eq-eqb, eqb-true, not-false}
 use Rattle.ground.specs.Chain.{refuse, or_then}
-use Rattle.ground.specs.Lists.{each, In, first_broken}
+use Rattle.ground.specs.Lists.{each, numbered, In, first_broken}
 use Rattle.ground.proofs.Chain.{then-elim}
 use Rattle.ground.proofs.Lists.{in-append, in_left, in_right, in-each, each_in, in-numbered, numbered-in, in_map, map-in, first-append, first-map}
 use Rattle.bundle.specs.Container.{classes, class_at, part_of}
 use Rattle.bundle.specs.Program.{method_of, method_at, program_of}
-use Rattle.structure.specs.declared.Verdict.{Verdict}
-use Rattle.structure.specs.Verdicts.{verdict, is_bad, Names}
+use Rattle.verdicts.specs.declared.Verdict.{Verdict}
+use Rattle.verdicts.specs.Verdicts.{verdict, is_bad, Names}
 use Rattle.structure.specs.Loops.{and_then, ascending}
 use Rattle.structure.specs.Structure.{structure_of}
 use Rattle.structure.specs.Places.{structure_places}
@@ -103,17 +103,29 @@ module _ (b : List ℕ) where
       accepted : Verdict
       accepted = verdict 0 (classes b) 0
 
-  pub by-class : (f : ℕ → List Place) → ascending (classes b) (λ c. searched b (f c)) ≡ searched b (each (classes b) f)
-  by-class f = sym (search-each (holds b) (drawn b) (bad b) (classes b) f)
+  pub by-class : (f : ℕ → List Place) → searched b (each (classes b) f) ≡ ascending (classes b) (λ c. searched b (f c))
+  by-class f = search-each (holds b) (drawn b) (bad b) (classes b) f
 
-  pub form-parts : (c : ℕ) → forms_of (classes b) c (class_at b c) (part_of b (class_at b c)) ≡ searched b (form_places b c)
+  pub form-parts : (c : ℕ) → searched b (form_places b c) ≡ forms_of (classes b) c (class_at b c) (part_of b (class_at b c))
   unfolding form_at first_broken program_of method_at method_of
-  form-parts c = sym (search-each (holds b) (drawn b) (bad b) (class_at b c).code (λ i. form c (i + 1) ∷ []))
+  form-parts c = search-each (holds b) (drawn b) (bad b) (class_at b c).code (λ i. form c (i + 1) ∷ [])
 
-  pub rule-parts : (c : ℕ) → rules_of (program_of b) (classes b) c (class_at b c) (part_of b (class_at b c)) ≡ searched b (rule_places b c)
-  unfolding rules_of rule_verdict first_broken program_of method_at method_of
-  rule-parts c =
-      ap (refuse (holds b (first c)) (verdict 10 c 0)) (sym (search-each (holds b) (drawn b) (bad b) (class_at b c).code (λ i. rule c (i + 1) ∷ [])))
+  rule-first : (c : ℕ) → searched b (rule_places b c)
+      ≡ refuse (holds b (first c)) (verdict 10 c 0) (searched b (numbered (class_at b c).code (λ i. rule c (i + 1))))
+  unfolding first_broken
+  rule-first c = refl
+
+  rule-each : (c : ℕ) → searched b (numbered (class_at b c).code (λ i. rule c (i + 1)))
+      ≡ ascending (class_at b c).code (rule_verdict (program_of b) (classes b) c (class_at b c) (part_of b (class_at b c)))
+  unfolding rule_verdict first_broken program_of method_at method_of
+  rule-each c = search-each (holds b) (drawn b) (bad b) (class_at b c).code (λ i. rule c (i + 1) ∷ [])
+
+  pub rule-parts : (c : ℕ) → searched b (rule_places b c) ≡ rules_of (program_of b) (classes b) c (class_at b c) (part_of b (class_at b c))
+  unfolding rules_of program_of method_at method_of
+  rule-parts c = rule-first c ∙ ap (refuse (holds b (first c)) (verdict 10 c 0)) (rule-each c)
+
+-- what the code searches, as its parts
+pub ruleset searching = (verdict-parts, by-class, form-parts, rule-parts)
 
 -- verify and structure agree on 1 to 7
 pub agrees : Agrees

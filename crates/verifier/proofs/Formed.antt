@@ -9,7 +9,7 @@ use Rattle.ground.specs.Chain.{refuse, scan}
 use Rattle.ground.proofs.Chain.{scan-zero, scan-next}
 use Rattle.ground.proofs.Bounded.{all-elim}
 use Rattle.bundle.specs.declared.Class.{Class}
-use Rattle.structure.specs.Verdicts.{is_bad, pass}
+use Rattle.verdicts.specs.Verdicts.{is_bad, pass}
 use Rattle.rows.specs.Rows.{row_at}
 use Rattle.forms.specs.Forms.{row_formed}
 use Rattle.forms.specs.Columns.{rows_formed}
@@ -26,3 +26,5 @@ module _ (n c : ℕ) (k : Class) (r : List ℕ) (h : rows_formed n k r ≡ true)
 
   pub forms-passed : pass ≡ forms_of n c k r
   forms-passed = sym (up_to k.code (omega arith))
+
+pub ruleset formed = (forms-passed)

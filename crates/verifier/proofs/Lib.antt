@@ -1,3 +1,4 @@
 pub mod FirstBroken
 pub mod WhyFirst
 mod Formed
+pub mod Rulings

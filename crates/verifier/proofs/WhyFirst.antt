@@ -12,7 +12,7 @@ use Rattle.ground.specs.Lists.{numbered, First, first_broken}
 use Rattle.ground.proofs.Bools.{never}
 use Rattle.ground.proofs.Lists.{first-in, first-is, first-append, first-each}
 use Rattle.bundle.specs.Container.{classes}
-use Rattle.structure.specs.Verdicts.{verdict, is_bad}
+use Rattle.verdicts.specs.Verdicts.{verdict, is_bad}
 use Rattle.structure.specs.Places as structure
 use Rattle.matching.specs.Matching.{Edge, is_short, then_short, first_short, variable_short, entry_short, edge_short}
 use Rattle.matching.proofs.Scans.{first-same}

@@ -6,8 +6,8 @@ use Rattle.ground.specs.Lists.{first_broken}
 use Rattle.bundle.specs.declared.Class.{Class}
 use Rattle.bundle.specs.Container.{instruction_at}
 use Rattle.bundle.specs.Program.{Program}
-use Rattle.structure.specs.declared.Verdict.{Verdict}
-use Rattle.structure.specs.Verdicts.{verdict, rule_fails, pass}
+use Rattle.verdicts.specs.declared.Verdict.{Verdict}
+use Rattle.verdicts.specs.Verdicts.{verdict, rule_fails, pass}
 use Rattle.structure.specs.Loops.{ascending}
 use Rattle.rows.specs.Rows.{row_at}
 use Rattle.forms.specs.Forms.{row_formed, first_row}

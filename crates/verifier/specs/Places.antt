@@ -3,8 +3,8 @@ use Rattle.std.specs.Prelude.{List, ◌∷◌, ◌++◌, map, Bool, ℕ, ◌+◌
 use Rattle.ground.specs.Lists.{each, numbered}
 use Rattle.bundle.specs.Container.{classes, class_at}
 use Rattle.bundle.specs.Program.{Address, program_of}
-use Rattle.structure.specs.declared.Verdict.{Verdict}
-use Rattle.structure.specs.Verdicts.{verdict, rule_fails}
+use Rattle.verdicts.specs.declared.Verdict.{Verdict}
+use Rattle.verdicts.specs.Verdicts.{verdict, rule_fails}
 use Rattle.structure.specs.Places as structure
 use Rattle.rows.specs.Typed.{typed_of}
 use Rattle.forms.specs.Forms.{formed_at, first_at}

@@ -2,8 +2,8 @@
 use Rattle.std.specs.Prelude.{List, true, ◌≡◌, ℕ}
 use Rattle.ground.specs.Lists.{first_broken}
 use Rattle.bundle.specs.Container.{classes}
-use Rattle.structure.specs.declared.Verdict.{Verdict}
-use Rattle.structure.specs.Verdicts.{verdict, is_bad, Judges}
+use Rattle.verdicts.specs.declared.Verdict.{Verdict}
+use Rattle.verdicts.specs.Verdicts.{verdict, is_bad, Judges}
 use Rattle.structure.specs.Structure.{structure_of}
 use Rattle.verifier.specs.Places.{Within, places, holds, drawn}
 

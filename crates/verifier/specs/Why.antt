@@ -2,7 +2,7 @@
 use Rattle.std.specs.Prelude.{List, [], ◌∷◌, ◌++◌, ◌≡◌, true, false, ℕ, ◌<◌, ◌≤◌, eqb}
 use Rattle.ground.specs.Lists.{numbered, First}
 use Rattle.bundle.specs.Program.{Address, program_of}
-use Rattle.structure.specs.declared.Verdict.{Verdict}
+use Rattle.verdicts.specs.declared.Verdict.{Verdict}
 use Rattle.matching.specs.Matching.{Edge, variable_short, entry_short}
 use Rattle.rows.specs.Typed.{typed_of}
 use Rattle.rules.specs.Rule.{Rule, met}

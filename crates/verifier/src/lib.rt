@@ -5,197 +5,119 @@ ghost use Rattle.std.specs.Prelude.{◌≡◌, ◌<◌};
 ghost use Rattle.bundle.specs.Program.{program_of};
 ghost use Rattle.bundle.specs.Container.{classes};
 ghost use Rattle.ground.specs.Lists.{each};
+ghost use Rattle.verdicts.specs.Numbers.{found, judgement};
 ghost use Rattle.verifier.specs.Places.{form_places, rule_places};
 ghost use Rattle.verifier.specs.Verdict.{verdict_of};
 ghost use Rattle.verifier.specs.Loops.{searched, form_at, forms_of, rule_verdict, rules_of};
 
-use bundle::Class;
+use bundle::Record;
 use instructions::Addr;
-use structure::Verdict;
+use verdicts::Refusal;
 
-fn form_at(n: u8, c: u8, k: Class, r: &[u8], i: u16) -> Verdict
+#[tactic(auto, unfolding(crate::specs::Loops::form_at, ground::specs::Chain::refuse))]
+fn form_at(c: u8, m: &Record, i: u16) -> Result<(), Refusal>
     requires { i < 65535 }
-    ensures { result ≡ form_at n c k r.now i }
+    ensures { found result ≡ form_at m.now.classes c m.now.class m.now.bytes.now i }
 {
-    if !forms::row_formed(n, k, r, Addr(i + 1)) {
-        return Verdict {
-            number: 8,
-            class: c,
-            address: i + 1,
-            why: 0,
-        };
+    if !forms::row_formed(m, Addr(i + 1)) {
+        return Err(Refusal::Form(c, Addr(i + 1)));
     }
-    Verdict {
-        number: 0,
-        class: 0,
-        address: 0,
-        why: 0,
-    }
+    Ok(())
 }
 
-fn forms_search(n: u8, c: u8, k: Class, r: &[u8]) -> Verdict
-    ensures { result ≡ forms_of n c k r.now }
+#[tactic(auto, using(verdicts::proofs::Numbers::searching))]
+fn forms_search(c: u8, m: &Record) -> Result<(), Refusal>
+    ensures { found result ≡ forms_of m.now.classes c m.now.class m.now.bytes.now }
 {
-    let code = k.code;
-    for i in 0..code {
-        let v = form_at(n, c, k, r, i);
-        if v.number != 0 {
-            return v;
-        }
+    for i in 0..m.class.code {
+        form_at(c, m, i)?;
     }
-    Verdict {
-        number: 0,
-        class: 0,
-        address: 0,
-        why: 0,
-    }
+    Ok(())
 }
 
 // Most often all rows are formed, and then no first one is searched that isn't.
-fn forms_of(n: u8, c: u8, k: Class, r: &[u8]) -> Verdict
-    ensures { result ≡ forms_of n c k r.now }
+#[tactic(auto, using(crate::proofs::Formed::formed))]
+fn forms_of(c: u8, m: &Record) -> Result<(), Refusal>
+    ensures { found result ≡ forms_of m.now.classes c m.now.class m.now.bytes.now }
 {
-    if forms::rows_formed(n, k, r) {
-        return Verdict {
-            number: 0,
-            class: 0,
-            address: 0,
-            why: 0,
-        };
+    if forms::rows_formed(m) {
+        return Ok(());
     }
-    forms_search(n, c, k, r)
+    forms_search(c, m)
 }
 
-fn forms_of_class(b: &[u8], c: u8) -> Verdict
-    ensures { result ≡ searched b.now (form_places b.now c) }
+#[tactic(auto, using(crate::proofs::FirstBroken::searching))]
+fn forms_of_class(b: &[u8], c: u8) -> Result<(), Refusal>
+    ensures { found result ≡ searched b.now (form_places b.now c) }
 {
-    let k = bundle::class_at(b, c);
-    forms_of(bundle::classes(b), c, k, bundle::part_of(b, k))
+    forms_of(c, &bundle::record_at(b, c))
 }
 
-// Verdict 8 over all classes and addresses: the first malformed row's, and 0 where there is none.
-pub fn forms_of_all(b: &[u8]) -> Verdict
-    ensures { result ≡ searched b.now (each (classes b.now) (form_places b.now)) }
+// Verdict 8 over all classes and addresses: the first malformed row's.
+#[tactic(auto, using(verdicts::proofs::Numbers::searching, crate::proofs::FirstBroken::searching))]
+pub fn forms_of_all(b: &[u8]) -> Result<(), Refusal>
+    ensures { found result ≡ searched b.now (each (classes b.now) (form_places b.now)) }
 {
-    let n = bundle::classes(b);
-    for c in 0..n {
-        let v = forms_of_class(b, c);
-        if v.number != 0 {
-            return v;
-        }
+    for c in 0..bundle::classes(b) {
+        forms_of_class(b, c)?;
     }
-    Verdict {
-        number: 0,
-        class: 0,
-        address: 0,
-        why: 0,
-    }
+    Ok(())
 }
 
-fn rule_verdict(b: &[u8], n: u8, c: u8, k: Class, r: &[u8], i: u16) -> Verdict
+fn rule_verdict(b: &[u8], c: u8, m: &Record, i: u16) -> Result<(), Refusal>
     requires { i < 65535 }
-    ensures { result ≡ rule_verdict (program_of b.now) n c k r.now i }
+    ensures { found result ≡ rule_verdict (program_of b.now) m.now.classes c m.now.class m.now.bytes.now i }
 {
     let l = Addr(i + 1);
-    let o = rules::rule_of(b, n, k, r, l, bundle::code_at(k, r, l));
-    if !(o.met & (o.short == 0)) {
-        return Verdict {
-            number: 9,
-            class: c,
-            address: i + 1,
-            why: o.short,
-        };
-    }
-    Verdict {
-        number: 0,
-        class: 0,
-        address: 0,
-        why: 0,
-    }
+    rules::rule_of(b, m, l, m.code_at(l)).map_err(|why| Refusal::Rule(c, l, why))
 }
 
-fn rules_of(b: &[u8], n: u8, c: u8, k: Class, r: &[u8]) -> Verdict
-    ensures { result ≡ rules_of (program_of b.now) n c k r.now }
+#[tactic(auto, using(verdicts::proofs::Numbers::searching), unfolding(crate::specs::Loops::rules_of, ground::specs::Chain::refuse))]
+fn rules_of(b: &[u8], c: u8, m: &Record) -> Result<(), Refusal>
+    ensures { found result ≡ rules_of (program_of b.now) m.now.classes c m.now.class m.now.bytes.now }
 {
-    if !forms::first_row(n, k, r) {
-        return Verdict {
-            number: 10,
-            class: c,
-            address: 0,
-            why: 0,
-        };
+    if !forms::first_row(m) {
+        return Err(Refusal::FirstRow(c));
     }
-    let code = k.code;
-    for i in 0..code {
-        let v = rule_verdict(b, n, c, k, r, i);
-        if v.number != 0 {
-            return v;
-        }
+    for i in 0..m.class.code {
+        rule_verdict(b, c, m, i)?;
     }
-    Verdict {
-        number: 0,
-        class: 0,
-        address: 0,
-        why: 0,
-    }
+    Ok(())
 }
 
-fn rules_of_class(b: &[u8], c: u8) -> Verdict
-    ensures { result ≡ searched b.now (rule_places b.now c) }
+#[tactic(auto, using(crate::proofs::FirstBroken::searching))]
+fn rules_of_class(b: &[u8], c: u8) -> Result<(), Refusal>
+    ensures { found result ≡ searched b.now (rule_places b.now c) }
 {
-    let k = bundle::class_at(b, c);
-    rules_of(b, bundle::classes(b), c, k, bundle::part_of(b, k))
+    rules_of(b, c, &bundle::record_at(b, c))
 }
 
-fn rules_of_all(b: &[u8]) -> Verdict
-    ensures { result ≡ searched b.now (each (classes b.now) (rule_places b.now)) }
+#[tactic(auto, using(verdicts::proofs::Numbers::searching, crate::proofs::FirstBroken::searching))]
+fn rules_of_all(b: &[u8]) -> Result<(), Refusal>
+    ensures { found result ≡ searched b.now (each (classes b.now) (rule_places b.now)) }
 {
-    let n = bundle::classes(b);
-    for c in 0..n {
-        let v = rules_of_class(b, c);
-        if v.number != 0 {
-            return v;
-        }
+    for c in 0..bundle::classes(b) {
+        rules_of_class(b, c)?;
     }
-    Verdict {
-        number: 0,
-        class: 0,
-        address: 0,
-        why: 0,
-    }
+    Ok(())
 }
 
 // All places.
-fn judge(b: &[u8]) -> Verdict
-    ensures { result ≡ verdict_of b.now }
+#[tactic(auto, using(verdicts::proofs::Numbers::searching, crate::proofs::FirstBroken::searching))]
+fn judge(b: &[u8]) -> Result<u8, Refusal>
+    ensures { judgement result ≡ verdict_of b.now }
 {
-    let u = structure::structure(b);
-    if u.number != 0 {
-        return u;
-    }
-    let v = forms_of_all(b);
-    if v.number != 0 {
-        return v;
-    }
-    let w = rules_of_all(b);
-    if w.number != 0 {
-        return w;
-    }
-    Verdict {
-        number: 0,
-        class: bundle::classes(b),
-        address: 0,
-        why: 0,
-    }
+    structure::structure(b)?;
+    forms_of_all(b)?;
+    rules_of_all(b)?;
+    Ok(bundle::classes(b))
 }
 
 // The verdict on a bundle. The bundle is never written. What its last bytes tell is asked for first, and then nothing is called.
-pub fn verify(b: &[u8]) -> Verdict
-    ensures { result ≡ verdict_of b.now }
+#[tactic(auto, using(verdicts::proofs::Numbers::searching, structure::proofs::FirstBroken::searching, crate::proofs::FirstBroken::searching))]
+pub fn verify(b: &[u8]) -> Result<u8, Refusal>
+    ensures { judgement result ≡ verdict_of b.now }
 {
-    let u = structure::head(b);
-    if u.number != 0 {
-        return u;
-    }
+    structure::head(b)?;
     judge(b)
 }

@@ -13,7 +13,7 @@ use Rattle.ground.proofs.Bools.{never, and_both, or-true}
 use Rattle.ground.proofs.Bounded.{all-intro}
 use Rattle.ground.proofs.Lists.{first-in}
 use Rattle.bundle.specs.Container.{classes, class_at, size, record_fits}
-use Rattle.structure.specs.declared.Verdict.{Verdict}
+use Rattle.verdicts.specs.declared.Verdict.{Verdict}
 use Rattle.structure.specs.Conditions.{trailer_ok}
 use Rattle.structure.specs.Places.{whole, trailer, directory, limits, extent, descriptors, instruction}
 use Rattle.verifier.specs.Places.{Place, structural, form, first, rule, drawn}
@@ -60,7 +60,7 @@ early true true false = among 3 refl
 early true true true = among 0 refl
 
 module _ (g : Given) (z : refusal_of g ≡ 0) where
-  m : Measured g.classes g.directory g.descriptors g.instructions g.kinds g.depths
+  m : Measured g
   m = all-measured g z
 
   abbrev b : List ℕ
@@ -71,14 +71,14 @@ module _ (g : Given) (z : refusal_of g ≡ 0) where
   unfolding trailer_ok
   trailer-ok =
       rw (
-        eq-eqb _ _ (mark-first m g.exception),
-        eq-eqb _ _ (mark-last m g.exception),
-        eq-eqb _ _ (length-is m g.exception),
+        eq-eqb _ _ (mark-first m),
+        eq-eqb _ _ (mark-last m),
+        eq-eqb _ _ (length-is m),
       )
 
   module _ (c : ℕ) (l : c < g.classes) where
     class-laid : class_at b c ≡ placed g.directory c
-    class-laid = class-is m g.exception c l
+    class-laid = class-is m c l
 
     -- never 5
     fits : record_fits b (class_at b c) ≡ true
@@ -104,13 +104,13 @@ module _ (g : Given) (z : refusal_of g ≡ 0) where
   class-apart : (c : ℕ) → c < g.classes → class_apart b c ≡ true
   unfolding class_apart directory_apart lower_apart apart
   class-apart c l =
-      and_both (directory_apart b (class_at b c)) (lower_apart b (class_at b c) c) (rw (class-laid c l, directory-is m g.exception, le-leb _ _ (before-directory c l)))
+      and_both (directory_apart b (class_at b c)) (lower_apart b (class_at b c) c) (rw (class-laid c l, directory-is m, le-leb _ _ (before-directory c l)))
       (all-intro (apart_from b (class_at b c)) c (λ e h. lower c e l h))
 
   -- never 23
   all_apart_lem : all_apart b ≡ true
   unfolding all_apart
-  all_apart_lem = all-intro (class_apart b) (classes b) (λ c l. class-apart c (rw (classes-are m g.exception) at l))
+  all_apart_lem = all-intro (class_apart b) (classes b) (λ c l. class-apart c (rw (classes-are m) at l))
 
   place : (q : Place) → shape_holds b q ≡ false → ShapeWithin b q → Among (drawn b q).number
   unfolding is_in
@@ -118,7 +118,7 @@ module _ (g : Given) (z : refusal_of g ≡ 0) where
   place (structural trailer) h w = never trailer-ok h
   place (structural directory) h w = among 3 refl
   place (structural (limits c)) h w = among 4 refl
-  place (structural (extent c)) h w = never (fits c (rw (classes-are m g.exception) at w)) h
+  place (structural (extent c)) h w = never (fits c (rw (classes-are m) at w)) h
   place (structural (descriptors c)) h w = among 6 refl
   place (structural (instruction c a)) h w = among 7 refl
   place (form c a) h w = among 8 refl

@@ -17,7 +17,7 @@ use Rattle.ground.proofs.Bytes.{part_at}
 use Rattle.bundle.specs.declared.Class.{Class}
 use Rattle.bundle.specs.Container.{directory_at, classes, exception, head_at, class_at, width, descriptor_count, size}
 use Rattle.shape.specs.PairBytes.{behind}
-use Rattle.laying.specs.Given.{given, numbers_at}
+use Rattle.laying.specs.Given.{Given, numbers_at}
 use Rattle.laying.specs.Lengths.{code_bytes, entries, records_before, whole}
 use Rattle.laying.specs.Laid.{word, entry_laid, entries_laid, row_laid, record_laid, cut, record_of, head_laid, trailer_laid, laid}
 use Rattle.laying.specs.Loops.{Measured}
@@ -134,25 +134,31 @@ module _ (k : Class) (ds is ts ps : List ℕ) (e : length ds ≡ descriptor_coun
       ∙ each_at (row_laid k ts ps) k.code i o l (omega (arith, row-long k ts ps i))
 
 -- ---- the bundle
-module _ {n : ℕ} {d ds is ts ps : List ℕ} (m : Measured n d ds is ts ps) (x : ℕ) where
+module _ {g : Given} (m : Measured g) where
+  abbrev n : ℕ
+  n = g.classes
+
+  abbrev d : List ℕ
+  d = g.directory
+
   abbrev b : List ℕ
-  b = laid (given n x d ds is ts ps)
+  b = laid g
 
   abbrev records : List ℕ
-  records = each n (record_of d ds is ts ps)
+  records = each n (record_of g)
 
   abbrev heads : List ℕ
   heads = each n (head_laid d)
 
   abbrev trailer : List ℕ
-  trailer = trailer_laid (records_before d n) n x (whole d n)
+  trailer = trailer_laid (records_before d n) n g.exception (whole d n)
 
   front_long : length (records ++ heads) ≡ records_before d n + 8 * n
   front_long = omega (arith, length-append records heads, records-long m n (omega arith), heads-long m n (omega arith))
 
   pub bundle-long : length b ≡ records_before d n + 8 * n + 8
   unfolding whole
-  bundle-long = laid-long m x
+  bundle-long = laid-long m
 
   trailer-at : (t : ℕ) → at b (records_before d n + 8 * n + t) ≡ at trailer t
   unfolding laid
@@ -167,7 +173,7 @@ module _ {n : ℕ} {d ds is ts ps : List ℕ} (m : Measured n d ds is ts ps) (x 
   unfolding trailer_laid word
   classes-are = back 6 2 refl
 
-  pub exception-is : exception b ≡ x
+  pub exception-is : exception b ≡ g.exception
   unfolding trailer_laid word
   exception-is = back 5 3 refl
 
@@ -185,7 +191,7 @@ module _ {n : ℕ} {d ds is ts ps : List ℕ} (m : Measured n d ds is ts ps) (x 
   length-is =
       let i : length b - 4 + 1 ≡ records_before d n + 8 * n + 5 = omega (arith, bundle-long) in
       let e : at b (length b - 4 + 1) ≡ at trailer 5 = ap (at b) i ∙ trailer-at 5 in
-      rw (back 4 4 refl, e) (word_back (whole d n) ∙ sym (laid-long m x))
+      rw (back 4 4 refl, e) (word_back (whole d n) ∙ sym (laid-long m))
 
   pub mark-first : at b (length b - 2) ≡ 76
   unfolding trailer_laid word
@@ -197,16 +203,16 @@ module _ {n : ℕ} {d ds is ts ps : List ℕ} (m : Measured n d ds is ts ps) (x 
 
   module _ (c : ℕ) (l : c < n) where
     -- byte q of class c's record
-    pub record-at : (q : ℕ) → q < size (numbers_at d c) → at b (records_before d c + q) ≡ at (record_of d ds is ts ps c) q
+    pub record-at : (q : ℕ) → q < size (numbers_at d c) → at b (records_before d c + q) ≡ at (record_of g c) q
     unfolding laid
     record-at q h =
-        let e : records_before d c + q ≡ length (each c (record_of d ds is ts ps)) + q = ap (λ (y : ℕ). y + q) (sym (records-long m c (omega arith))) in
+        let e : records_before d c + q ≡ length (each c (record_of g)) + q = ap (λ (y : ℕ). y + q) (sym (records-long m c (omega arith))) in
         let w = records-part m c l in
         let r = records-long m n (omega arith) in
         at_left (records ++ heads) trailer (records_before d c + q) (omega (arith, front_long))
         ∙ at_left records heads (records_before d c + q) (omega arith)
         ∙ ap (at records) e
-        ∙ each_at (record_of d ds is ts ps) n c q l (rw (class-long m c l) h)
+        ∙ each_at (record_of g) n c q l (rw (class-long m c l) h)
 
     -- byte t of its place in the directory
     head_at_lem : (t : ℕ) → t < 8 → at b (records_before d n + 8 * c + t) ≡ at (head_laid d c) t

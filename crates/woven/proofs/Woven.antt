@@ -13,8 +13,8 @@ use Rattle.ground.proofs.Bools.{never}
 use Rattle.bundle.specs.declared.Class.{Class}
 use Rattle.bundle.specs.Container.{classes, class_at, width, descriptor_count, size, part_of, instruction_place, code_from, code_at}
 use Rattle.bundle.specs.Program.{program_of, method_at, method_of}
-use Rattle.structure.specs.declared.Verdict.{Verdict}
-use Rattle.structure.specs.Verdicts.{verdict, is_bad}
+use Rattle.verdicts.specs.declared.Verdict.{Verdict}
+use Rattle.verdicts.specs.Verdicts.{verdict, is_bad}
 use Rattle.rows.specs.Rows.{start_behind, row_start, depth_at}
 use Rattle.shape.specs.PairBytes.{behind, place_in, place_of, depth_of}
 use Rattle.shape.specs.Apart.{Readable}
@@ -34,7 +34,7 @@ use Rattle.woven.specs.Woven.{placed, kind_place, OfClass, Woven, Writes, Refuse
 use Rattle.woven.proofs.Standing.{row-depth, row-entry, record-descriptor, record-code, record-row, bundle-long, classes-are, exception-is, record-at, class-is}
 
 -- ---- of the bundle that is laid, class c
-module _ (g : Given) (m : Measured g.classes g.directory g.descriptors g.instructions g.kinds g.depths) (c : ℕ) (l : c < g.classes) where
+module _ (g : Given) (m : Measured g) (c : ℕ) (l : c < g.classes) where
   abbrev d : List ℕ
   d = g.directory
 
@@ -42,7 +42,7 @@ module _ (g : Given) (m : Measured g.classes g.directory g.descriptors g.instruc
   k = placed d c
 
   abbrev r : List ℕ
-  r = record_of d g.descriptors g.instructions g.kinds g.depths c
+  r = record_of g c
 
   pub size_is : size k ≡ size (numbers_at d c)
   unfolding placed size width
@@ -57,11 +57,11 @@ module _ (g : Given) (m : Measured g.classes g.directory g.descriptors g.instruc
   offset-is = refl
 
   pub extent : k.offset + size k ≤ length (laid g) - 8
-  extent = omega (arith, size_is, offset-is, records-part m c l, bundle-long m g.exception)
+  extent = omega (arith, size_is, offset-is, records-part m c l, bundle-long m)
 
   part-is : (q : ℕ) → q < size k → at (part_of (laid g) k) q ≡ at r q
   part-is q h =
-      part-byte (laid g) k extent q h ∙ ap (λ (y : ℕ). at (laid g) (y + q)) offset-is ∙ record-at m g.exception c l q (rw size_is at h)
+      part-byte (laid g) k extent q h ∙ ap (λ (y : ℕ). at (laid g) (y + q)) offset-is ∙ record-at m c l q (rw size_is at h)
 
   ds-long : length (descriptors_of d g.descriptors c) ≡ descriptor_count (numbers_at d c)
   ds-long = cut-long g.descriptors (descriptors_before d c) (descriptor_count (numbers_at d c)) (within m c l).descriptors
@@ -102,7 +102,7 @@ module _ (g : Given) (m : Measured g.classes g.directory g.descriptors g.instruc
       → at (laid g) (k.offset + (row_start k a + o)) ≡ at (row_laid (numbers_at d c) (kinds_of d g.kinds c) (depths_of d g.depths c) (a - 1)) o
   unfolding placed row_start start_behind width size record_of
   row_laid_lem a o low high h u =
-      record-at m g.exception c l (row_start k a + o) u
+      record-at m c l (row_start k a + o) u
       ∙ record-row (numbers_at d c) (descriptors_of d g.descriptors c) (instructions_of d g.instructions c) (kinds_of d g.kinds c) (depths_of d g.depths c) ds-long is-long (a - 1) o (omega arith) h
 
   module _ (e : class_at (laid g) c ≡ k) (a : ℕ) (low : 1 ≤ a) (high : a ≤ (numbers_at d c).code) where
@@ -144,14 +144,14 @@ module _ (g : Given) (m : Measured g.classes g.directory g.descriptors g.instruc
 
 -- ---- of what is filled
 module _ (g : Given) (z : refusal_of g ≡ 0) where
-  m : Measured g.classes g.directory g.descriptors g.instructions g.kinds g.depths
+  m : Measured g
   m = all-measured g z
 
   abbrev b : List ℕ
   b = laid g
 
   count : classes b ≡ g.classes
-  count = classes-are m g.exception
+  count = classes-are m
 
   module _ (R : Readable b) (x : List ℕ) (A : Alike b x) where
     module _ (c : ℕ) (l : c < g.classes) where
@@ -159,7 +159,7 @@ module _ (g : Given) (z : refusal_of g ≡ 0) where
       lc = rw count l
 
       laid-class : class_at b c ≡ placed g.directory c
-      laid-class = class-is m g.exception c l
+      laid-class = class-is m c l
 
       same : class_at x c ≡ class_at b c
       same = class_same b R x A c lc
@@ -185,7 +185,7 @@ module _ (g : Given) (z : refusal_of g ≡ 0) where
       record {
         accepted = L.accepted;
         classes = classes-same b R x L.choice.alike ∙ count;
-        exception = exception-same b R x L.choice.alike ∙ exception-is m g.exception;
+        exception = exception-same b R x L.choice.alike ∙ exception-is m;
         class = λ c l. of_class R x L.choice.alike c l;
       }
 

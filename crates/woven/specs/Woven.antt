@@ -5,8 +5,8 @@ use Rattle.ground.specs.Lists.{In}
 use Rattle.bundle.specs.declared.Class.{Class}
 use Rattle.bundle.specs.Container.{descriptor_count, class_at, part_of, code_from, code_at}
 use Rattle.bundle.specs.Program.{program_of}
-use Rattle.structure.specs.declared.Verdict.{Verdict}
-use Rattle.structure.specs.Verdicts.{verdict}
+use Rattle.verdicts.specs.declared.Verdict.{Verdict}
+use Rattle.verdicts.specs.Verdicts.{verdict}
 use Rattle.verifier.specs.Verdict.{verdict_of}
 use Rattle.shape.specs.PairBytes.{place_of, depth_of}
 use Rattle.laying.specs.Given.{Given, numbers_at}

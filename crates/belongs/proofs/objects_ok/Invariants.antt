@@ -1,4 +1,3 @@
-use Prim.Native.Nat.{◌≤◌, ◌-◌}
 use mathlib.Core.Path.{◌≡◌}
 use mathlib.Core.Bool.{true}
 use Rattle.ground.specs.Bounded.{all_below}
@@ -7,7 +6,4 @@ use Rattle.belongs.specs.Belongs.{object_ok}
 use Rattle.belongs.proofs.objects_ok.Given as goal
 
 abbrev pub invariant-loop-o : goal.invariant-loop-o
-invariant-loop-o l = (l.o ≤ l.objects) × (all_below l.o (object_ok (program_of l.b) l.classes) ≡ true)
-
-abbrev pub decreases-loop-o : goal.decreases-loop-o
-decreases-loop-o l = l.objects - l.o
+invariant-loop-o l = all_below l.o (object_ok (program_of l.b) l.classes) ≡ true

@@ -1,3 +1,5 @@
+use mathlib.Core.Path.{ap}
+use mathlib.Core.Bool.{not}
 use borrow.Author.Tests.{le-leb, lt-leb}
 use Rattle.ground.proofs.Bools.{passed, failed}
 use Rattle.belongs.specs.Belongs.{placed_ok}
@@ -17,8 +19,8 @@ returns-then-k-t c = rw (le-leb _ _ c.if-at-lt1.false, le-leb _ _ c.if-k-at.fals
 
 pub returns-then-not-places_refer : goal.returns-then-not-places_refer
 unfolding placed_ok
-returns-then-not-places_refer c = rw (le-leb _ _ c.if-at-lt1.false, le-leb _ _ c.if-k-at.false, le-leb _ _ c.if-k-t.false, failed c.places_refer.ensures c.if-not-places_refer.true-raw)
+returns-then-not-places_refer c = rw (le-leb _ _ c.if-at-lt1.false, le-leb _ _ c.if-k-at.false, le-leb _ _ c.if-k-t.false, failed c.places_refer.ensures (ap not c.if-not-places_refer.true))
 
 pub returns : goal.returns
 unfolding placed_ok
-returns c = rw (le-leb _ _ c.if-at-lt1.false, le-leb _ _ c.if-k-at.false, le-leb _ _ c.if-k-t.false, passed c.places_refer.ensures c.if-not-places_refer.false-raw) c.places_refer-2.ensures
+returns c = rw (le-leb _ _ c.if-at-lt1.false, le-leb _ _ c.if-k-at.false, le-leb _ _ c.if-k-t.false, passed c.places_refer.ensures (ap not c.if-not-places_refer.false)) c.places_refer-2.ensures

@@ -1,5 +1,6 @@
+use mathlib.Core.Path.{ap}
+use mathlib.Core.Bool.{not}
 use Rattle.std.proofs.Common.{rules}
-use Prim.Native.Nat.{◌-◌}
 use mathlib.Core.Path.{◌≡◌, sym, ◌∙◌}
 use mathlib.Core.Bool.{true, ◌&&◌}
 use lib.ListN.{length}
@@ -17,14 +18,14 @@ use Rattle.belongs.proofs.state_ok.Goals as goal
 
 pub returns-then-not-objects_ok : goal.returns-then-not-objects_ok
 unfolding state_ok
-returns-then-not-objects_ok c = rw (failed c.objects_ok.ensures c.if-not-objects_ok.true-raw)
+returns-then-not-objects_ok c = rw (failed c.objects_ok.ensures (ap not c.if-not-objects_ok.true))
 
 pub returns-then-not-fields_ok : goal.returns-then-not-fields_ok
 unfolding state_ok
-returns-then-not-fields_ok c = rw (failed c.fields_ok.ensures c.if-not-fields_ok.true-raw, and-false)
+returns-then-not-fields_ok c = rw (failed c.fields_ok.ensures (ap not c.if-not-fields_ok.true), and-false)
 
 pub loop-i-init : goal.loop-i-init
-loop-i-init c = (search rules, all-zero _, all-zero _, all-zero _)
+loop-i-init c = (all-zero _, all-zero _, all-zero _)
 
 pub returns-then-not-thread_ok : goal.returns-then-not-thread_ok
 unfolding state_ok threads_ok
@@ -33,7 +34,7 @@ returns-then-not-thread_ok c =
     let l : length a.s.threads ≡ 8 = search (rules, length-mapped) in
     let e = read-any a.s.threads c.loop-i.i idle _ (omega arith) in
     rw (
-      all-stop (thread_ok_at (program_of a.b.now) a.s) 8 c.loop-i.i c.loop-i-test.true (rw e (failed c.thread_ok.ensures c.if-not-thread_ok.true-raw)),
+      all-stop (thread_ok_at (program_of a.b.now) a.s) 8 c.loop-i.i c.loop-i-test.true (rw e (failed c.thread_ok.ensures (ap not c.if-not-thread_ok.true))),
       and-false,
     )
 
@@ -43,7 +44,7 @@ returns-then-not-thread_held_ok c =
     let s = c.args.s in
     let l : length s.threads ≡ 8 = search (rules, length-mapped) in
     let e = read-any s.threads c.loop-i.i idle _ (omega arith) in
-    rw (thread-stop s _ c.loop-i.i c.loop-i-test.true (rw e (failed c.thread_held_ok.ensures c.if-not-thread_held_ok.true-raw)))
+    rw (thread-stop s _ c.loop-i.i c.loop-i-test.true (rw e (failed c.thread_held_ok.ensures (ap not c.if-not-thread_held_ok.true))))
 
 pub loop-i-preserved : goal.loop-i-preserved
 loop-i-preserved c =
@@ -51,11 +52,10 @@ loop-i-preserved c =
     let l : length s.threads ≡ 8 = search (rules, length-mapped) in
     let e = read-any s.threads c.loop-i.i idle _ (omega arith) in
     let i = c.loop-i.i in
-    let both : (thread_counts_ok_at s i && word_agrees_at s i) ≡ true = rw e (passed c.thread_held_ok.ensures c.if-not-thread_held_ok.false-raw) in (
-      omega arith,
-      all_more _ _ c.loop-i.invariant.1 (rw e (passed c.thread_ok.ensures c.if-not-thread_ok.false-raw)),
-      all_more _ _ c.loop-i.invariant.2 (and-fst (thread_counts_ok_at s i) (word_agrees_at s i) both),
-      all_more _ _ c.loop-i.invariant.3 (and-snd (thread_counts_ok_at s i) (word_agrees_at s i) both),
+    let both : (thread_counts_ok_at s i && word_agrees_at s i) ≡ true = rw e (passed c.thread_held_ok.ensures (ap not c.if-not-thread_held_ok.false)) in (
+      all_more _ _ c.loop-i.invariant.0 (rw e (passed c.thread_ok.ensures (ap not c.if-not-thread_ok.false))),
+      all_more _ _ c.loop-i.invariant.1 (and-fst (thread_counts_ok_at s i) (word_agrees_at s i) both),
+      all_more _ _ c.loop-i.invariant.2 (and-snd (thread_counts_ok_at s i) (word_agrees_at s i) both),
     )
 
 pub returns : goal.returns
@@ -63,13 +63,13 @@ unfolding state_ok threads_ok counts_ok words_agree
 returns c =
     let a = c.args in
     let turn = c.loop-i in
-    let objects = passed c.objects_ok.ensures c.if-not-objects_ok.false-raw in
-    let counts = all_done _ 8 _ turn.invariant.0 c.loop-i-test.false turn.invariant.2 in
-    let words = all_done _ 8 _ turn.invariant.0 c.loop-i-test.false turn.invariant.3 in
+    let objects = passed c.objects_ok.ensures (ap not c.if-not-objects_ok.false) in
+    let counts = all_done _ 8 _ (omega arith) c.loop-i-test.false turn.invariant.1 in
+    let words = all_done _ 8 _ (omega arith) c.loop-i-test.false turn.invariant.2 in
     rw (
       objects,
-      passed c.fields_ok.ensures c.if-not-fields_ok.false-raw,
-      ← all_done _ 8 _ turn.invariant.0 c.loop-i-test.false turn.invariant.1,
+      passed c.fields_ok.ensures (ap not c.if-not-fields_ok.false),
+      ← all_done _ 8 _ (omega arith) c.loop-i-test.false turn.invariant.0,
       ← counts,
       ← words,
     )

@@ -1,4 +1,4 @@
-use Prim.Native.Nat.{◌<◌, ◌≤◌, ◌-◌}
+use Prim.Native.Nat.{◌<◌}
 use mathlib.Core.Path.{◌≡◌}
 use mathlib.Core.Bool.{true}
 use Rattle.ground.specs.Bounded.{all_below}
@@ -7,7 +7,4 @@ use Rattle.belongs.proofs.Words.{Made}
 use Rattle.belongs.proofs.thread_held_ok.Given as goal
 
 abbrev pub invariant-loop-o : goal.invariant-loop-o
-invariant-loop-o l = (l.o ≤ 32) × (all_below l.o (count_ok_at l.counts l.objects l.live l.i) ≡ true) × Made l.counts l.i l.made l.o × (l.made < 4294967296)
-
-abbrev pub decreases-loop-o : goal.decreases-loop-o
-decreases-loop-o l = 32 - l.o
+invariant-loop-o l = (all_below l.o (count_ok_at l.counts l.objects l.live l.i) ≡ true) × Made l.counts l.i l.made l.o × (l.made < 4294967296)

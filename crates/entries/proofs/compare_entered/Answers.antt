@@ -15,11 +15,7 @@ returns-then-alike c =
       ← c.dip_in.ensures,
       ← c.end_in.ensures,
       ← c.dip_in-then-alike.ensures,
-      ← c.less.ensures,
+      ← c.saturating_sub.ensures,
       ← c.end_in-then-alike.ensures,
     )
     c.compared.ensures
-
-pub returns : goal.returns
-unfolding compare
-returns c = rw (← c.takes.ensures, ← c.dip_of.ensures.0, ← c.end_of.ensures.0, ← c.dip_of-2.ensures.0, ← c.less-2.ensures, ← c.end_of-2.ensures.0) c.compared-2.ensures

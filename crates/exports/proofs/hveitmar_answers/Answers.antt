@@ -1,5 +1,3 @@
-use Rattle.std.proofs.Common.{rules}
-use Prim.Native.Nat.{◌-◌}
 use mathlib.Core.Path.{◌≡◌}
 use lib.ListN.{length}
 use native.Mathlib.Omega.{arith}
@@ -8,7 +6,7 @@ use Rattle.exports.specs.Exports.{running, answers_of}
 use Rattle.exports.proofs.hveitmar_answers.Goals as goal
 
 pub loop-i-init : goal.loop-i-init
-loop-i-init c = (rw (running_none, ← c.fresh-f.ensures), search rules)
+loop-i-init c = (rw (running_none, ← c.begin-r.ensures.0), c.begin-r.ensures.1)
 
 pub loop-i-preserved : goal.loop-i-preserved
 loop-i-preserved c = (rw (running_more, ← c.loop-i.invariant.0, ← c.byte.ensures) c.advance-r.ensures.0, c.advance-r.ensures.1)

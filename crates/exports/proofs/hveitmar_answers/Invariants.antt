@@ -1,6 +1,5 @@
-use Prim.Native.Nat.{◌≤◌, ◌<◌, ◌-◌}
+use Prim.Native.Nat.{◌<◌}
 use mathlib.Core.Path.{◌≡◌}
-use lib.ListN.{length}
 use lib.Dec.{leb}
 use Rattle.ground.specs.Bytes.{at}
 use Rattle.exports.specs.Exports.{running}

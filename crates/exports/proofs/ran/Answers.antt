@@ -1,19 +1,15 @@
-use Rattle.std.proofs.Common.{rules}
-use Prim.Native.Nat.{◌-◌}
-use mathlib.Core.Path.{◌≡◌}
-use lib.ListN.{length}
-use native.Mathlib.Omega.{arith}
+use Rattle.std.proofs.Common.{◌≡◌, length, arith}
 use Rattle.exports.proofs.Turns.{running_none, running_more}
 use Rattle.exports.specs.Exports.{scheduled}
 use Rattle.exports.proofs.ran.Goals as goal
 
-pub loop-i-init : goal.loop-i-init
-loop-i-init c = (rw (running_none, ← c.fresh-f.ensures), search rules)
+pub loop-x-init : goal.loop-x-init
+loop-x-init c = (rw (running_none, ← c.begin-r.ensures.0), c.begin-r.ensures.1)
 
-pub loop-i-preserved : goal.loop-i-preserved
-loop-i-preserved c = (rw (running_more, ← c.loop-i.invariant.0) c.advance-r.ensures.0, c.advance-r.ensures.1)
+pub loop-x-preserved : goal.loop-x-preserved
+loop-x-preserved c = (rw (running_more, ← c.loop-x.invariant.0) c.advance-r.ensures.0, c.advance-r.ensures.1)
 
 pub returns : goal.returns
 unfolding scheduled
-returns c = let e : c.loop-i.i ≡ length c.args.schedule.now = omega arith in
-    rw (← e, ← c.loop-i.invariant.0)
+returns c = let e : c.loop-x.x-index ≡ length c.args.schedule.now = omega arith in
+    rw (← e, ← c.loop-x.invariant.0)

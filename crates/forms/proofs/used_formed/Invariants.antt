@@ -1,13 +1,8 @@
-use mathlib.Core.Bool.{true}
-use mathlib.Core.Path.{◌≡◌}
-use Prim.Native.Nat.{◌≤◌, ◌-◌}
+use Rattle.std.proofs.Common.{◌≡◌, true}
 use Rattle.ground.specs.Bounded.{all_below}
-use Rattle.rows.specs.Rows.{row_from}
+use Rattle.rows.specs.Rows.{row_in}
 use Rattle.forms.specs.Forms.{entry_formed}
 use Rattle.forms.proofs.used_formed.Given as goal
 
 abbrev pub invariant-loop-j : goal.invariant-loop-j
-invariant-loop-j l = (l.j ≤ l.d) × (all_below l.j (entry_formed (row_from l.n l.k l.r l.p)) ≡ true)
-
-abbrev pub decreases-loop-j : goal.decreases-loop-j
-decreases-loop-j l = l.d - l.j
+invariant-loop-j l = all_below l.j (entry_formed (row_in l.m l.p)) ≡ true

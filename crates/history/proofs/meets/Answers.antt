@@ -12,4 +12,4 @@ returns-then-not-t c = rw (failed (ap (λ (t : Thread). t.live) c.thread-t.ensur
 pub returns : goal.returns
 returns c =
     let a = c.args in
-    met-is a.b.now a.s a.thread c.thread-t.ensures c.if-not-t.false c.class_at-k.ensures c.part_of-r.ensures.0 c.code_at-x.ensures c.object_met.ensures
+    met-is a.b.now a.s a.thread c.thread-t.ensures c.if-not-t.false c.record_at-m.ensures.numbers c.record_at-m.ensures.bytes c.code_at-x.ensures c.object_met.ensures

@@ -1,22 +1,20 @@
-use Rattle.std.proofs.Common.{rules}
+use Rattle.std.proofs.Common.{arith}
 use Rattle.ground.proofs.Bounded.{first-at, first-none}
 use borrow.Author.Count.{below_none, below_more}
 use Rattle.java.specs.Classes.{class_number}
-use native.Mathlib.Omega.{arith}
-use mathlib.Core.Path.{◌≡◌, sym, ◌∙◌}
+use mathlib.Core.Path.{sym, ◌∙◌}
 use Rattle.java.proofs.class_number.Goals as goal
 
 pub loop-c-init : goal.loop-c-init
-loop-c-init c = (search rules, below_none _)
+loop-c-init c = below_none _
 
 pub returns-then-is_index : goal.returns-then-is_index
 unfolding class_number
-returns-then-is_index c = sym (first-at 8 _ c.loop-c.c (omega arith) c.loop-c.invariant.1 (sym c.is_index.ensures ∙ c.if-is_index.true))
+returns-then-is_index c = (omega arith, sym (first-at 8 _ c.loop-c.c (omega arith) c.loop-c.invariant (sym c.is_index.ensures ∙ c.if-is_index.true)))
 
 pub loop-c-preserved : goal.loop-c-preserved
-loop-c-preserved c = (search rules, below_more _ _ c.loop-c.invariant.1 (sym c.is_index.ensures ∙ c.if-is_index.false))
+loop-c-preserved c = below_more _ _ c.loop-c.invariant (sym c.is_index.ensures ∙ c.if-is_index.false)
 
 pub returns : goal.returns
 unfolding class_number
-returns c = let e : c.loop-c.c ≡ 8 = omega arith in
-    e ∙ sym (first-none 8 _ (λ j h. c.loop-c.invariant.1 j (omega arith)))
+returns c = sym (first-none 8 _ (λ j h. c.loop-c.invariant j (omega arith)))

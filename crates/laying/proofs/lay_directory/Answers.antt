@@ -1,6 +1,6 @@
 use native.Mathlib.Omega.{arith}
 use Rattle.laying.specs.Laid.{head_laid}
-use Rattle.laying.proofs.Over.{each_none, each_more, each-room, each-done}
+use Rattle.laying.proofs.Over.{each_none, each_more, each-room}
 use Rattle.laying.proofs.Lengths.{records-upto}
 use Rattle.laying.proofs.lay_directory.Goals as goal
 
@@ -12,6 +12,3 @@ lay_head-q-requires c = (omega arith, omega arith, records-upto c.args.directory
 
 pub loop-c-preserved : goal.loop-c-preserved
 loop-c-preserved c = each_more (head_laid c.args.directory.now) _ _ c.args.n _ c.loop-c-test.true c.requires.3 c.loop-c.invariant c.lay_head-q.ensures
-
-pub returns : goal.returns
-returns c = each-done (head_laid c.args.directory.now) _ _ c.args.n _ (omega arith) c.loop-c-test.false c.loop-c.invariant

@@ -1,17 +1,8 @@
-use native.Mathlib.Omega.{arith}
 use mathlib.Core.Path.{ap}
 use Rattle.laying.specs.declared.Sizes.{Sizes}
 use Rattle.laying.specs.Laid.{word, head_laid}
 use Rattle.laying.proofs.Over.{lays-then}
 use Rattle.laying.proofs.lay_head.Goals as goal
-
-pub lay_word-q-requires : goal.lay_word-q-requires
-unfolding word head_laid
-lay_word-q-requires c = (omega (arith, ap (λ (s : Sizes). s.records) c.sizes_of.ensures.0), omega arith)
-
-pub lay_all-requires : goal.lay_all-requires
-unfolding word head_laid
-lay_all-requires c = omega arith
 
 pub returns : goal.returns
 unfolding word head_laid

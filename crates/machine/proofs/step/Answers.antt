@@ -1,17 +1,17 @@
-use borrow.Author.Tests.{le-ltb, eq-eqb, ne_eqb}
-use Rattle.ground.proofs.Bools.{passed, failed}
+use borrow.Author.Tests.{le-ltb}
 use Rattle.ground.specs.Chain.{refuse}
 use Rattle.machine.specs.Machine.{step_of}
+use Rattle.machine.proofs.Ready.{read}
 use Rattle.machine.proofs.step.Goals as goal
 
-pub returns-then-structure-ne0 : goal.returns-then-structure-ne0
+pub returns-then-is_err : goal.returns-then-is_err
 unfolding step_of refuse
-returns-then-structure-ne0 c = rw (rw c.structure.ensures at (ne_eqb _ _ c.if-structure-ne0.true))
+returns-then-is_err c = rw (read _ _ c.structure.ensures c.is_err.ensures.value, c.if-is_err.true)
 
 pub returns-then-not-state_ok : goal.returns-then-not-state_ok
 unfolding step_of refuse
-returns-then-not-state_ok c = rw (rw c.structure.ensures at (eq-eqb _ _ c.if-structure-ne0.false), failed c.state_ok.ensures c.if-not-state_ok.true-raw)
+returns-then-not-state_ok c = rw (read _ _ c.structure.ensures c.is_err.ensures.value, c.if-is_err.false, rw c.state_ok.ensures at c.if-not-state_ok.true)
 
 pub returns-then-thread-ge8 : goal.returns-then-thread-ge8
 unfolding step_of refuse
-returns-then-thread-ge8 c = rw (rw c.structure.ensures at (eq-eqb _ _ c.if-structure-ne0.false), passed c.state_ok.ensures c.if-not-state_ok.false-raw, le-ltb _ _ c.if-thread-ge8.true)
+returns-then-thread-ge8 c = rw (read _ _ c.structure.ensures c.is_err.ensures.value, c.if-is_err.false, rw c.state_ok.ensures at c.if-not-state_ok.false, le-ltb _ _ c.if-thread-ge8.true)

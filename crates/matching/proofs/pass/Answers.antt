@@ -1,23 +1,23 @@
-use Rattle.matching.proofs.Edges.{rest-none}
+use mathlib.Core.Path.{ap, sym, ◌∙◌}
+use Rattle.entries.specs.Shorts.{short_in}
 use Rattle.matching.specs.Passes.{pass}
-use Rattle.ground.proofs.Chain.{then-stop, then-go}
-use borrow.Author.Tests.{ne_eqb, eq-eqb}
-use mathlib.Core.Bool.{not}
-use mathlib.Core.Path.{ap, refl, sym, ◌∙◌}
+use Rattle.matching.proofs.Edges.{rest-none}
+use Rattle.matching.proofs.Scans.{short-left, short-go}
 use Rattle.matching.proofs.pass.Goals as goal
 
-pub returns-then-w-ne0 : goal.returns-then-w-ne0
+pub returns-in_err-vars_pass : goal.returns-in_err-vars_pass
 unfolding pass
-returns-then-w-ne0 c = then-stop _ _ _ c.vars_pass-w.ensures (ap not (ne_eqb _ _ c.if-w-ne0.true))
+returns-in_err-vars_pass c = short-left _ _ c.from_residual.ensures.1 _ c.in_err-vars_pass.ensures
 
-pub returns-then-t-ne0 : goal.returns-then-t-ne0
+pub returns-in_err-t : goal.returns-in_err-t
 unfolding pass
-returns-then-t-ne0 c = then-go _ _ c.vars_pass-w.ensures (ap not (eq-eqb _ _ c.if-w-ne0.false)) (then-stop _ _ _ refl (ap not (ne_eqb _ _ c.if-t-ne0.true)))
+returns-in_err-t c = short-go c.in_ok-vars_pass.ensures (short-left _ _ c.from_residual-in_err-t.ensures.1 _ (sym (ap short_in c.in_err-t.was)))
 
 pub returns-then-depth_left-eq0 : goal.returns-then-depth_left-eq0
 unfolding pass
-returns-then-depth_left-eq0 c = then-go _ _ c.vars_pass-w.ensures (ap not (eq-eqb _ _ c.if-w-ne0.false)) (then-go _ _ refl (ap not (eq-eqb _ _ c.if-t-ne0.false)) (rest-none _ _ _ _ (sym c.depth_left.ensures.0 ∙ c.if-depth_left-eq0.true)))
+returns-then-depth_left-eq0 c =
+    short-go c.in_ok-vars_pass.ensures (short-go (sym (ap short_in c.in_ok-t.was)) (rest-none _ _ _ _ (sym c.depth_left.ensures.0 ∙ c.if-depth_left-eq0.true)))
 
 pub returns : goal.returns
 unfolding pass
-returns c = then-go _ _ c.vars_pass-w.ensures (ap not (eq-eqb _ _ c.if-w-ne0.false)) (then-go _ _ refl (ap not (eq-eqb _ _ c.if-t-ne0.false)) c.rest_pass.ensures)
+returns c = short-go c.in_ok-vars_pass.ensures (short-go (sym (ap short_in c.in_ok-t.was)) c.rest_pass.ensures)

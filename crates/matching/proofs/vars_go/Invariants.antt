@@ -1,13 +1,9 @@
-use Prim.Native.Nat.{◌≤◌, ◌-◌}
 use mathlib.Core.Path.{◌≡◌}
 use mathlib.Core.Bool.{true}
 use Rattle.ground.specs.Bounded.{all_below}
 use Rattle.matching.specs.Matching.{var_goes}
-use Rattle.rows.specs.Rows.{row_from}
+use Rattle.rows.specs.Rows.{row_in}
 use Rattle.matching.proofs.vars_go.Given as goal
 
 abbrev pub invariant-loop-i : goal.invariant-loop-i
-invariant-loop-i l = (l.i ≤ l.vars) × (all_below l.i (var_goes (row_from l.n l.k l.r l.p)) ≡ true)
-
-abbrev pub decreases-loop-i : goal.decreases-loop-i
-decreases-loop-i l = l.vars - l.i
+invariant-loop-i l = all_below l.i (var_goes (row_in l.m l.p)) ≡ true

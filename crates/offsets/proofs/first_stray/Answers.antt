@@ -1,5 +1,5 @@
-use Rattle.offsets.proofs.Index.{zeros-indexed}
+use Rattle.offsets.proofs.Index.{first-indexed}
 use Rattle.offsets.proofs.first_stray.Goals as goal
 
 pub stray_by-requires : goal.stray_by-requires
-stray_by-requires c = (c.total-all.ensures, zeros-indexed _ 8192)
+stray_by-requires c = (c.total-all.ensures, first-indexed _ 4096)

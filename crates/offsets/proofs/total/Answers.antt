@@ -1,21 +1,11 @@
-use Rattle.offsets.proofs.Turns.{stands-first, stands-turn, stands-end, turn-fits, gives_fits}
-use native.Mathlib.Omega.{arith}
+use Rattle.offsets.proofs.Turns.{counted-first, counted-next, counted-all}
 use Rattle.offsets.proofs.total.Goals as goal
 
-pub loop-p-init : goal.loop-p-init
-loop-p-init c = stands-first _
+pub loop-x-init : goal.loop-x-init
+loop-x-init c = counted-first _ c.into_iter-x-iterator.ensures.into_iter_gives c.walk-x-items.ensures
 
-pub overflow_add-k : goal.overflow_add-k
-overflow_add-k c = omega (arith, gives_fits _ c.loop-p.invariant c.loop-p-test.true c.read_at-r.ensures.0 c.gives-k.ensures)
-
-pub overflow_add-p : goal.overflow_add-p
-overflow_add-p c = omega (arith, turn-fits _ c.loop-p.invariant c.loop-p-test.true c.read_at-r.ensures.0 c.gives-k.ensures c.read_at-r.ensures.1)
-
-pub loop-p-smaller : goal.loop-p-smaller
-loop-p-smaller c = omega (arith, turn-fits _ c.loop-p.invariant c.loop-p-test.true c.read_at-r.ensures.0 c.gives-k.ensures c.read_at-r.ensures.1)
-
-pub loop-p-preserved : goal.loop-p-preserved
-loop-p-preserved c = stands-turn _ c.loop-p.invariant c.loop-p-test.true c.read_at-r.ensures.0 c.gives-k.ensures c.read_at-r.ensures.1
+pub loop-x-preserved : goal.loop-x-preserved
+loop-x-preserved c = counted-next _ c.loop-x.invariant c.in-Some.ensures.steps c.gives-k.ensures
 
 pub returns : goal.returns
-returns c = stands-end _ c.loop-p.invariant c.loop-p-test.false
+returns c = counted-all _ c.loop-x.invariant c.in-None.ensures.steps

@@ -1,10 +1,5 @@
-use Rattle.offsets.specs.Index.{Stands}
-use lib.ListN.{length}
-use Prim.Native.Nat.{◌-◌}
+use Rattle.offsets.proofs.Turns.{Counted}
 use Rattle.offsets.proofs.total.Given as goal
 
-abbrev pub invariant-loop-p : goal.invariant-loop-p
-invariant-loop-p l = Stands l.code l.p l.k
-
-abbrev pub decreases-loop-p : goal.decreases-loop-p
-decreases-loop-p l = length l.code - l.p
+abbrev pub invariant-loop-x : goal.invariant-loop-x
+invariant-loop-x l = Counted l.code l.x-iterator l.k

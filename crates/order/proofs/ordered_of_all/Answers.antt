@@ -1,20 +1,13 @@
-use Rattle.std.proofs.Common.{rules}
-use Prim.Native.Nat.{◌-◌}
-use mathlib.Core.Path.{refl, ap}
-use mathlib.Core.Bool.{not}
-use borrow.Author.Tests.{ne_eqb, eq-eqb}
-use Rattle.ground.proofs.Chain.{scan-zero, scan-next, scan-left, scan-done}
+use Rattle.std.proofs.Common.{arith}
+use Rattle.std.proofs.lemmas.Result.{err_from_is_err_and}
+use Rattle.verdicts.proofs.Numbers.{loop-err, loop-done}
 use Rattle.order.proofs.FirstBroken.{by-class}
 use Rattle.order.proofs.ordered_of_all.Goals as goal
 
-pub loop-c-init : goal.loop-c-init
-loop-c-init c = search (rules, scan-zero)
-
-pub returns-then-v-ne0 : goal.returns-then-v-ne0
-returns-then-v-ne0 c = rw (← by-class _ _ _, ← c.classes-n.ensures) (scan-left _ _ refl _ _ _ c.loop-c-test.true c.loop-c.invariant.1 c.ordered_of_class-v.ensures (ap not (ne_eqb _ _ c.if-v-ne0.true)))
-
-pub loop-c-preserved : goal.loop-c-preserved
-loop-c-preserved c = (search rules, scan-next _ _ refl _ _ c.loop-c.invariant.1 c.ordered_of_class-v.ensures (ap not (eq-eqb _ _ c.if-v-ne0.false)))
+pub returns-in_err-ordered_of_class : goal.returns-in_err-ordered_of_class
+returns-in_err-ordered_of_class c =
+    let p = err_from_is_err_and c.from_residual.result c.from_residual.ensures.1 in
+    rw (p.1, p.2, by-class, ← c.classes-c-end.ensures) (loop-err _ _ _ _ c.loop-c-test.true c.loop-c.invariant c.in_err-ordered_of_class.ensures)
 
 pub returns : goal.returns
-returns c = rw (← by-class _ _ _, ← c.classes-n.ensures) (scan-done _ _ refl _ _ _ c.loop-c.invariant.0 c.loop-c-test.false c.loop-c.invariant.1)
+returns c = rw (by-class, ← c.classes-c-end.ensures) (loop-done _ _ _ (omega arith) c.loop-c-test.false c.loop-c.invariant)

@@ -1,10 +1,6 @@
-use Prim.Native.Nat.{◌-◌, ◌≤◌}
 use Rattle.passes.specs.Passes.{Cleared}
 use Rattle.passes.proofs.Clears.{ClassThen, Rows}
 use Rattle.pairs.proofs.clear_class.Given as goal
 
 abbrev pub invariant-loop-i : goal.invariant-loop-i
-invariant-loop-i l = (l.i ≤ l.k.code) × Cleared (ClassThen l.c l.initial.b) (Rows l.c l.i) l.initial.b l.b
-
-abbrev pub decreases-loop-i : goal.decreases-loop-i
-decreases-loop-i l = l.k.code - l.i
+invariant-loop-i l = Cleared (ClassThen l.c l.initial.b) (Rows l.c l.i) l.initial.b l.b

@@ -6,11 +6,11 @@ use Rattle.passes.specs.Marks.{goals}
 use Rattle.pairs.proofs.goals.Goals as goal
 
 pub loop-l-init : goal.loop-l-init
-loop-l-init c = (omega arith, sym (set-zero _ _))
+loop-l-init c = sym (set-zero _ _)
 
 pub loop-l-preserved : goal.loop-l-preserved
-loop-l-preserved c = (omega arith, rw (c.goal_of-a.ensures, c.instruction_at.ensures, c.loop-l.invariant.1) (sym (set_more _ _ _)))
+loop-l-preserved c = rw (c.goal_of.ensures, c.instruction_at.ensures, c.loop-l.invariant) (sym (set_more _ _ _))
 
 pub returns : goal.returns
 unfolding goals
-returns c = let e : c.loop-l.l ≡ c.args.k.code + 1 = omega arith in rw e at c.loop-l.invariant.1
+returns c = let e : c.loop-l.l ≡ c.args.m.now.class.code + 1 = omega arith in rw e at c.loop-l.invariant

@@ -1,11 +1,8 @@
 use mathlib.Core.Path.{◌≡◌}
 use mathlib.Core.Bool.{false}
-use Prim.Native.Nat.{ℕ, ◌-◌, ◌≤◌, ◌<◌}
+use Prim.Native.Nat.{ℕ, ◌≤◌, ◌<◌}
 use Rattle.passes.specs.Marks.{is_marked}
 use Rattle.pairs.proofs.last_marked.Given as goal
 
 abbrev pub invariant-loop-l : goal.invariant-loop-l
-invariant-loop-l l = (l.l ≤ l.top) × ((j : ℕ) → l.l < j → j ≤ l.top → is_marked l.m j ≡ false)
-
-abbrev pub decreases-loop-l : goal.decreases-loop-l
-decreases-loop-l l = l.l - l.floor
+invariant-loop-l l = (j : ℕ) → l.l < j → j ≤ l.top → is_marked l.m j ≡ false

@@ -1,14 +1,13 @@
-use mathlib.Core.Bool.{false}
-use mathlib.Core.Path.{◌∙◌}
-use lib.ListN.{length-set}
+use native.Mathlib.Omega.{arith}
+use Rattle.std.proofs.lemmas.Result.{err_from_is_err_and}
 use Rattle.passes.proofs.Marks.{look_none, look-risen}
 use Rattle.pairs.proofs.look_at.Goals as goal
 
-pub returns-then-o-ne1 : goal.returns-then-o-ne1
-returns-then-o-ne1 c = λ j. look_none _ j _ _ _ _ _ _ _ c.if-o-ne1.true (c.raise_row-o.ensures j)
+pub returns-in_err-rose : goal.returns-in_err-rose
+returns-in_err-rose c = let p = err_from_is_err_and c.from_residual.result c.from_residual.ensures.1 in λ j. rw p.1 (look_none _ j _ _ _ _ _ _ _ (λ e. omega arith) (c.in_err-rose.ensures j))
 
-pub mark_readers-requires : goal.mark_readers-requires
-mark_readers-requires c = (length-set c.args.m.now c.args.l false ∙ c.requires.0, c.requires.1, c.requires.2, c.requires.3, c.requires.4)
+pub returns-then-rose : goal.returns-then-rose
+returns-then-rose c = λ j. rw c.if-rose.true (look-risen _ j _ _ _ _ _ _ _ (rw c.if-rose.true at (c.in_ok-rose.ensures j)) c.mark_readers.ensures)
 
-pub returns : goal.returns
-returns c = λ j. look-risen _ j _ _ _ _ _ _ _ _ c.if-o-ne1.false (c.raise_row-o.ensures j) c.mark_readers.ensures
+pub returns-else-rose : goal.returns-else-rose
+returns-else-rose c = λ j. rw c.if-rose.false (look_none _ j _ _ _ _ _ _ _ (λ e. omega arith) (rw c.if-rose.false at (c.in_ok-rose.ensures j)))

@@ -1,18 +1,18 @@
-use native.Mathlib.Omega.{arith}
-use Rattle.passes.proofs.Raises.{row-begins, row-goes-on, row_ends, row-over}
+use Rattle.std.proofs.lemmas.Result.{err_from_is_err_and}
+use Rattle.passes.proofs.Raises.{row-goes-on, row_ends, row-over}
+use Rattle.pairs.proofs.Rises.{either-rose, either-over, in_range}
 use Rattle.pairs.proofs.raise_row.Goals as goal
 
-pub loop-s-init : goal.loop-s-init
-loop-s-init c = (omega arith, (λ e. omega arith), row-begins c.args.n c.args.k c.args.l c.in_use-m.result c.args.b.now c.instruction_at-x.result (rw (← c.part_of.ensures.0) c.instruction_at-x.ensures) c.in_use-m.ensures.0)
-
-pub raise_entry-p-requires : goal.raise_entry-p-requires
-raise_entry-p-requires c = omega (arith, c.loop-s-test.true, c.in_use-m.ensures.1)
-
-pub returns-then-o-eq2 : goal.returns-then-o-eq2
-returns-then-o-eq2 c = row-over c.args.n c.args.k c.args.l c.in_use-m.result c.args.b.now c.instruction_at-x.result (rw (← c.part_of.ensures.0) c.instruction_at-x.ensures) c.in_use-m.ensures.0 _ _ _ c.if-o-eq2.true (rw (← c.either-o.ensures) at (row-goes-on c.args.n c.args.k c.args.l c.in_use-m.result c.args.b.now c.instruction_at-x.result (rw (← c.part_of.ensures.0) c.instruction_at-x.ensures) c.in_use-m.ensures.0 _ _ _ _ _ c.loop-s-test.true c.loop-s.invariant.1 c.loop-s.invariant.2 c.raise_entry-p.ensures))
+pub returns-in_err-rose : goal.returns-in_err-rose
+returns-in_err-rose c =
+    let p = err_from_is_err_and c.from_residual.result c.from_residual.ensures.1 in
+    rw p.1 (row-over _ _ _ c.in_use-m.result _ c.instruction_at-x.result (cc) (cc) _ _ _ (either-over _)
+    (row-goes-on _ _ _ _ _ c.instruction_at-x.result (cc) (cc) _ _ _ _ _ c.loop-s-test.true (in_range c.loop-s.rose) c.loop-s.invariant c.in_err-rose.ensures))
 
 pub loop-s-preserved : goal.loop-s-preserved
-loop-s-preserved c = (omega (arith, c.loop-s-test.true), c.if-o-eq2.false, (rw (← c.either-o.ensures) at (row-goes-on c.args.n c.args.k c.args.l c.in_use-m.result c.args.b.now c.instruction_at-x.result (rw (← c.part_of.ensures.0) c.instruction_at-x.ensures) c.in_use-m.ensures.0 _ _ _ _ _ c.loop-s-test.true c.loop-s.invariant.1 c.loop-s.invariant.2 c.raise_entry-p.ensures)))
+loop-s-preserved c =
+    rw (either-rose c.loop-s.rose c.in_ok-rose.field-0)
+    (row-goes-on _ _ _ _ _ c.instruction_at-x.result (cc) (cc) _ _ _ _ _ c.loop-s-test.true (in_range c.loop-s.rose) c.loop-s.invariant c.in_ok-rose.ensures)
 
 pub returns : goal.returns
-returns c = row_ends c.args.n c.args.k c.args.l c.in_use-m.result c.args.b.now c.instruction_at-x.result (rw (← c.part_of.ensures.0) c.instruction_at-x.ensures) c.in_use-m.ensures.0 _ _ _ c.loop-s-test.false c.loop-s.invariant.2
+returns c = row_ends _ _ _ _ _ c.instruction_at-x.result (cc) (cc) _ _ _ c.loop-s-test.false c.loop-s.invariant

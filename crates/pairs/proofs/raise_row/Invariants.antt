@@ -1,11 +1,9 @@
-use mathlib.Core.Path.{◌≡◌}
-use Prim.Native.Nat.{ℕ, ◌-◌, ◌≤◌}
+use Prim.Native.Nat.{ℕ}
+use Rattle.std.specs.Prelude.{Ok}
+use Rattle.pairs.specs.Rises.{rise_in}
 use Rattle.passes.specs.Passes.{Raised}
 use Rattle.passes.proofs.Raises.{GivenThen, SlotsBelow}
 use Rattle.pairs.proofs.raise_row.Given as goal
 
 abbrev pub invariant-loop-s : goal.invariant-loop-s
-invariant-loop-s l = (l.s ≤ l.m) × (l.o ≡ 2 → ⊥) × ((c : ℕ) → Raised (GivenThen l.n c l.k l.l l.initial.b) c l.l (SlotsBelow l.s) l.initial.b l.o l.b)
-
-abbrev pub decreases-loop-s : goal.decreases-loop-s
-decreases-loop-s l = l.m - l.s
+invariant-loop-s l = (c : ℕ) → Raised (GivenThen l.k.classes c l.k.class l.l l.initial.b) c l.l (SlotsBelow l.s) l.initial.b (rise_in (Ok l.rose)) l.b

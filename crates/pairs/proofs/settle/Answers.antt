@@ -1,15 +1,15 @@
-use native.Mathlib.Omega.{arith}
-use Rattle.passes.proofs.Marks.{settled-zero, all-begin, all-go-on, all-over, all_end}
+use mathlib.Core.Path.{refl}
+use Rattle.std.proofs.lemmas.Result.{err_from_is_err_and}
+use Rattle.passes.proofs.Marks.{all-go-on, all-over, all_end}
 use Rattle.pairs.proofs.settle.Goals as goal
 
-pub loop-c-init : goal.loop-c-init
-loop-c-init c = (omega arith, all-begin _)
-
-pub returns-then-settle_class-eq2 : goal.returns-then-settle_class-eq2
-returns-then-settle_class-eq2 c = (all-over c.classes-n.result c.args.b.now c.classes-n.ensures _ _ _ _ c.loop-c-test.true c.loop-c.invariant.1 c.settle_class.ensures.0 c.if-settle_class-eq2.true, λ e. omega arith)
+pub returns-in_err-settle_class : goal.returns-in_err-settle_class
+returns-in_err-settle_class c =
+    let p = err_from_is_err_and c.from_residual.result c.from_residual.ensures.1 in
+    rw p.1 (all-over _ _ c.classes-n.ensures _ _ _ _ c.loop-c-test.true c.loop-c.invariant c.in_err-settle_class.ensures refl)
 
 pub loop-c-preserved : goal.loop-c-preserved
-loop-c-preserved c = (omega (arith, c.loop-c-test.true), all-go-on c.classes-n.result c.args.b.now c.classes-n.ensures _ _ _ _ c.loop-c-test.true c.loop-c.invariant.1 c.settle_class.ensures.0 (settled-zero c.settle_class.ensures.0.answer c.settle_class.ensures.1 c.if-settle_class-eq2.false))
+loop-c-preserved c = all-go-on _ _ c.classes-n.ensures _ _ _ _ c.loop-c-test.true c.loop-c.invariant c.in_ok-settle_class.ensures refl
 
 pub returns : goal.returns
-returns c = (all_end c.classes-n.result c.args.b.now c.classes-n.ensures _ _ c.loop-c-test.false c.loop-c.invariant.1, λ e. omega arith)
+returns c = all_end _ _ c.classes-n.ensures _ _ c.loop-c-test.false c.loop-c.invariant

@@ -8,4 +8,4 @@ use Rattle.rows.proofs.same_but.Given as goal
 
 abbrev pub invariant-loop-i : goal.invariant-loop-i
 invariant-loop-i l =
-    (l.i ≤ l.n) × (l.p + 4 * l.n ≤ length l.r) × (l.q + 4 * l.n ≤ length l.r) × (all_below l.i (same_or_named l.r l.p l.q l.v) ≡ true)
+    (l.p + 4 * l.n ≤ length l.r) × (l.q + 4 * l.n ≤ length l.r) × (all_below l.i (same_or_named l.r l.p l.q l.v) ≡ true)

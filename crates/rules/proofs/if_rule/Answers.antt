@@ -1,14 +1,20 @@
-use Rattle.rules.proofs.Judging.{found, short-two}
+use mathlib.Core.Path.{refl}
 use Rattle.rules.specs.Rules.{if_rule}
-use Rattle.rules.specs.Rule.{ruling}
-use Rattle.ground.proofs.Chain.{stop, go}
-use mathlib.Core.Path.{sym, ap, ◌∙◌}
+use Rattle.rules.proofs.Judging.{answer-unmet, answer-short, answer-fits, short-then, fits-then}
 use Rattle.rules.proofs.if_rule.Goals as goal
 
-pub returns-then-not-if_met : goal.returns-then-not-if_met
-unfolding ruling
-returns-then-not-if_met c = stop _ _ c.if_met.ensures c.if-not-if_met.true-raw
+pub returns-in_err-asked : goal.returns-in_err-asked
+returns-in_err-asked c = answer-unmet _ _ c.if_met.ensures _ c.in_err-asked.ensures c.from_residual.ensures.1
+
+pub returns-in_err-popped_edge : goal.returns-in_err-popped_edge
+unfolding if_rule
+returns-in_err-popped_edge c = answer-short _ _ c.if_met.ensures _ _ c.in_ok-asked.ensures (short-then _ _ c.in_err-popped_edge.ensures) c.from_residual-in_err-popped_edge.ensures.1
+
+pub returns-in_err-popped_edge-2 : goal.returns-in_err-popped_edge-2
+unfolding if_rule
+returns-in_err-popped_edge-2 c =
+    answer-short _ _ c.if_met.ensures _ _ c.in_ok-asked.ensures (fits-then c.in_ok-popped_edge.ensures (short-then _ _ c.in_err-popped_edge-2.ensures)) c.from_residual-in_err-popped_edge-2.ensures.1
 
 pub returns : goal.returns
-unfolding ruling if_rule
-returns c = go _ c.if_met.ensures c.if-not-if_met.false-raw (ap found (rw (c.popped_edge.ensures, c.popped_edge-2.ensures) at c.then_short.ensures ∙ sym (short-two _ _ _ _)))
+unfolding if_rule
+returns c = answer-fits _ _ c.if_met.ensures c.in_ok-asked.ensures (fits-then c.in_ok-popped_edge.ensures (fits-then c.in_ok-popped_edge-2.ensures refl))

@@ -1,8 +1,7 @@
-use Rattle.rules.proofs.Judging.{ruling-none}
 use Rattle.rules.specs.Rules.{return_rule}
-use mathlib.Core.Path.{sym, ◌∙◌}
+use Rattle.rules.proofs.Judging.{answer-asked}
 use Rattle.rules.proofs.return_rule.Goals as goal
 
 pub returns : goal.returns
 unfolding return_rule
-returns c = (rw (c.stack_goes.ensures, c.vars_go.ensures) at c.judged.ensures) ∙ sym (ruling-none _ _)
+returns c = answer-asked _ _ (rw (c.stack_goes.ensures, c.vars_go.ensures)) c.asked.ensures

@@ -1,6 +1,8 @@
 use Rattle.runner.proofs.Halfway.{ran-refused}
-use mathlib.Core.Path.{◌∙◌}
+use Rattle.std.proofs.lemmas.Result.{err_from_is_err_and}
 use Rattle.runner.proofs.run.Goals as goal
 
-pub returns-then-v-ne0 : goal.returns-then-v-ne0
-returns-then-v-ne0 c = c.refused.ensures ∙ ran-refused _ _ _ c.verify-v.ensures c.if-v-ne0.true
+pub returns-in_err-classes : goal.returns-in_err-classes
+returns-in_err-classes c =
+    let p = err_from_is_err_and c.from_residual.result c.from_residual.ensures.1 in
+    rw (p.1, p.2) (ran-refused _ _ _ c.in_err-classes.ensures)

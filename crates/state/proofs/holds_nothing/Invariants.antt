@@ -1,4 +1,3 @@
-use Prim.Native.Nat.{◌≤◌, ◌-◌}
 use mathlib.Core.Path.{◌≡◌}
 use mathlib.Core.Bool.{true}
 use Rattle.ground.specs.Bounded.{all_below}
@@ -6,7 +5,4 @@ use Rattle.state.specs.State.{is_free}
 use Rattle.state.proofs.holds_nothing.Given as goal
 
 abbrev pub invariant-loop-o : goal.invariant-loop-o
-invariant-loop-o l = (l.o ≤ 32) × (all_below l.o (is_free l.counts l.i) ≡ true)
-
-abbrev pub decreases-loop-o : goal.decreases-loop-o
-decreases-loop-o l = 32 - l.o
+invariant-loop-o l = all_below l.o (is_free l.counts l.i) ≡ true

@@ -1,5 +1,4 @@
 use Rattle.std.proofs.Common.{rules}
-use Prim.Native.Nat.{◌-◌}
 use mathlib.Core.Path.{◌≡◌, sym, ap, ◌∙◌}
 use mathlib.Core.Bool.{not}
 use lib.ListN.{length}
@@ -14,26 +13,23 @@ use Rattle.state.specs.State.{lowest_free}
 use Rattle.state.proofs.lowest_free.Goals as goal
 
 pub loop-i-init : goal.loop-i-init
-loop-i-init c = (search rules, below_none _)
+loop-i-init c = below_none _
 
-pub returns-then-not-threads-k : goal.returns-then-not-threads-k
+pub returns-then-not-threads-i : goal.returns-then-not-threads-i
 unfolding lowest_free
-returns-then-not-threads-k c = λ s q.
+returns-then-not-threads-i c = λ s q.
     let a = c.args.threads in
     let l : length a ≡ 8 = search (rules, length-mapped) in
     let e = read-any a c.loop-i.i idle _ (omega arith) in
-    rw q (sym (first-at 8 _ c.loop-i.i (omega arith) c.loop-i.invariant.1 (ap (λ (t : Thread). not t.live) e ∙ c.if-not-threads-k.true-raw)))
+    (omega arith, rw q (sym (first-at 8 _ c.loop-i.i (omega arith) c.loop-i.invariant (ap (λ (t : Thread). not t.live) e ∙ ap not c.if-not-threads-i.true))))
 
 pub loop-i-preserved : goal.loop-i-preserved
 loop-i-preserved c =
     let a = c.args.threads in
-    let l : length a ≡ 8 = search (rules, length-mapped) in (
-      omega arith,
-      let e = read-any a c.loop-i.i idle _ (omega arith) in below_more _ _ c.loop-i.invariant.1 (ap (λ (t : Thread). not t.live) e ∙ c.if-not-threads-k.false-raw),
-    )
+    let l : length a ≡ 8 = search (rules, length-mapped) in
+    let e = read-any a c.loop-i.i idle _ (omega arith) in
+    below_more _ _ c.loop-i.invariant (ap (λ (t : Thread). not t.live) e ∙ ap not c.if-not-threads-i.false)
 
 pub returns : goal.returns
 unfolding lowest_free
-returns c = λ s q.
-    let e : c.loop-i.i ≡ 8 = omega arith in
-    rw q (e ∙ sym (first-none 8 _ (λ j h. c.loop-i.invariant.1 j (omega arith))))
+returns c = λ s q. rw q (sym (first-none 8 _ (λ j h. c.loop-i.invariant j (omega arith))))

@@ -1,4 +1,4 @@
-use Prim.Native.Nat.{ℕ, ◌≤◌, ◌<◌, ◌-◌}
+use Prim.Native.Nat.{ℕ, ◌<◌}
 use mathlib.Core.Path.{◌≡◌}
 use mathlib.Core.Bool.{false, not}
 use lib.ListN.{get_or}
@@ -6,7 +6,4 @@ use Rattle.threads.specs.Threads.{idle}
 use Rattle.state.proofs.lowest_free.Given as goal
 
 abbrev pub invariant-loop-i : goal.invariant-loop-i
-invariant-loop-i l = (l.i ≤ 8) × ((j : ℕ) → j < l.i → not (get_or l.threads j idle).live ≡ false)
-
-abbrev pub decreases-loop-i : goal.decreases-loop-i
-decreases-loop-i l = 8 - l.i
+invariant-loop-i l = (j : ℕ) → j < l.i → not (get_or l.threads j idle).live ≡ false

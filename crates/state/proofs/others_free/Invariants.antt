@@ -1,4 +1,3 @@
-use Prim.Native.Nat.{◌≤◌, ◌-◌}
 use mathlib.Core.Path.{◌≡◌}
 use mathlib.Core.Bool.{true}
 use Rattle.ground.specs.Bounded.{all_below}
@@ -6,7 +5,4 @@ use Rattle.state.specs.State.{free_of}
 use Rattle.state.proofs.others_free.Given as goal
 
 abbrev pub invariant-loop-j : goal.invariant-loop-j
-invariant-loop-j l = (l.j ≤ 8) × (all_below l.j (free_of l.counts l.i l.o) ≡ true)
-
-abbrev pub decreases-loop-j : goal.decreases-loop-j
-decreases-loop-j l = 8 - l.j
+invariant-loop-j l = all_below l.j (free_of l.counts l.i l.o) ≡ true

@@ -1,4 +1,3 @@
-use Prim.Native.Nat.{◌≤◌, ◌-◌}
 use mathlib.Core.Path.{◌≡◌}
 use mathlib.Core.Bool.{true}
 use Rattle.ground.specs.Bounded.{all_below}
@@ -6,7 +5,4 @@ use Rattle.state_bytes.specs.Format.{is_place_at}
 use Rattle.state_bytes.proofs.are_places.Given as goal
 
 abbrev pub invariant-loop-i : goal.invariant-loop-i
-invariant-loop-i l = (l.i ≤ l.n) × (all_below l.i (is_place_at l.g l.p) ≡ true)
-
-abbrev pub decreases-loop-i : goal.decreases-loop-i
-decreases-loop-i l = l.n - l.i
+invariant-loop-i l = all_below l.i (is_place_at l.g l.p) ≡ true

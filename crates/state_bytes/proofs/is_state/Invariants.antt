@@ -1,4 +1,3 @@
-use Prim.Native.Nat.{◌≤◌, ◌-◌}
 use mathlib.Core.Path.{◌≡◌}
 use mathlib.Core.Bool.{true}
 use Rattle.ground.specs.Bounded.{all_below}
@@ -6,7 +5,4 @@ use Rattle.state_bytes.specs.Format.{is_thread_at}
 use Rattle.state_bytes.proofs.is_state.Given as goal
 
 abbrev pub invariant-loop-i : goal.invariant-loop-i
-invariant-loop-i l = (l.i ≤ 8) × (all_below l.i (is_thread_at l.g) ≡ true)
-
-abbrev pub decreases-loop-i : goal.decreases-loop-i
-decreases-loop-i l = 8 - l.i
+invariant-loop-i l = all_below l.i (is_thread_at l.g) ≡ true

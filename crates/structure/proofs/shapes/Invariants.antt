@@ -1,13 +1,9 @@
-use Prim.Native.Nat.{◌≤◌, ◌-◌}
 use mathlib.Core.Path.{◌≡◌}
 use Rattle.ground.specs.Chain.{scan}
 use Rattle.structure.specs.Places.{shape_places}
 use Rattle.structure.specs.Structure.{searched}
-use Rattle.structure.specs.Verdicts.{is_bad, pass}
+use Rattle.verdicts.specs.Verdicts.{is_bad, pass}
 use Rattle.structure.proofs.shapes.Given as goal
 
 abbrev pub invariant-loop-c : goal.invariant-loop-c
-invariant-loop-c l = (l.c ≤ l.n) × (scan is_bad pass l.c (λ d. searched l.b (shape_places d)) ≡ pass)
-
-abbrev pub decreases-loop-c : goal.decreases-loop-c
-decreases-loop-c l = l.n - l.c
+invariant-loop-c l = scan is_bad pass l.c (λ d. searched l.b (shape_places d)) ≡ pass

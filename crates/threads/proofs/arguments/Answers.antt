@@ -1,6 +1,5 @@
 use Rattle.std.proofs.Common.{rules}
 use Rattle.threads.proofs.Places.{length-mapped}
-use Prim.Native.Nat.{◌-◌}
 use mathlib.Core.Path.{◌≡◌, sym, ◌∙◌}
 use lib.ListN.{length, get_or-eq_default}
 use native.Mathlib.Omega.{arith}
@@ -11,11 +10,11 @@ use Rattle.threads.proofs.arguments.Goals as goal
 use Rattle.threads.proofs.arguments.Goals.{then-p-lt16, else-p-lt16}
 
 pub loop-j-init : goal.loop-j-init
-loop-j-init c = (search rules, rw c.zero_slot-z.ensures (sym (set-zero _ _)))
+loop-j-init c = rw c.zero_slot-z.ensures (sym (set-zero _ _))
 
 pub returns-then-i-ge16 : goal.returns-then-i-ge16
 returns-then-i-ge16 c =
-    c.loop-j.invariant.1 ∙ set_past _ _ c.loop-j.j c.args.n (omega arith) (omega arith)
+    c.loop-j.invariant ∙ set_past _ _ c.loop-j.j c.args.n (omega arith) (omega arith)
 
 pub loop-j-preserved : goal.loop-j-preserved
 loop-j-preserved c =
@@ -29,9 +28,9 @@ loop-j-preserved c =
       | else-p-lt16 w ↦ w.x-is ∙ c.zero_slot-z.ensures ∙ sym (get_or-eq_default t.stack zero_slot (omega arith))
     ]
     in
-    (omega arith, rw (read, c.loop-j.invariant.1) (sym (set_more _ _ _)))
+    rw (read, c.loop-j.invariant) (sym (set_more _ _ _))
 
 pub returns : goal.returns
 returns c =
     let e : c.loop-j.j ≡ c.args.n = omega arith in
-    rw (← e) c.loop-j.invariant.1
+    rw (← e) c.loop-j.invariant

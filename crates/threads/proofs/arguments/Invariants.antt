@@ -1,4 +1,3 @@
-use Prim.Native.Nat.{◌≤◌, ◌-◌}
 use mathlib.Core.Path.{◌≡◌}
 use lib.ListN.{replicate}
 use Rattle.ground.specs.Bounded.{set_below}
@@ -7,7 +6,4 @@ use Rattle.threads.specs.Threads.{from_top}
 use Rattle.threads.proofs.arguments.Given as goal
 
 abbrev pub invariant-loop-j : goal.invariant-loop-j
-invariant-loop-j l = (l.j ≤ l.n) × (l.next ≡ set_below l.j (from_top l.starter) (replicate 16 zero_slot))
-
-abbrev pub decreases-loop-j : goal.decreases-loop-j
-decreases-loop-j l = l.n - l.j
+invariant-loop-j l = l.next ≡ set_below l.j (from_top l.starter) (replicate 16 zero_slot)

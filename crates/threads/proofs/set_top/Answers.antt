@@ -10,12 +10,12 @@ use Rattle.threads.proofs.set_top.Goals as goal
 
 pub returns-then-p-lt16 : goal.returns-then-p-lt16
 unfolding topped
-returns-then-p-lt16 c = rw c.minus-p.ensures
+returns-then-p-lt16 c = rw c.saturating_sub-p.ensures
 
 pub returns : goal.returns
 unfolding topped
 returns c =
     let t = c.args.t in
     let l : length t.stack ≡ 16 = search (rules, length-mapped) in
-    let e = c.minus-p.ensures in
+    let e = c.saturating_sub-p.ensures in
     rw (set_out t.stack (t.depth - 1) c.args.x (omega arith))

@@ -1,5 +1,4 @@
 use Rattle.std.proofs.Common.{rules}
-use Prim.Native.Nat.{◌-◌}
 use mathlib.Core.Path.{◌≡◌, sym, ◌∙◌}
 use lib.ListN.{length}
 use native.Mathlib.Omega.{arith}
@@ -7,17 +6,17 @@ use Rattle.ground.proofs.Writes.{fill-zero, fill_more, fill-past}
 use Rattle.threads.proofs.zero_from.Goals as goal
 
 pub loop-i-init : goal.loop-i-init
-loop-i-init c = (search rules, sym (fill-zero _ _ _))
+loop-i-init c = sym (fill-zero _ _ _)
 
 pub returns-then-p-ge16 : goal.returns-then-p-ge16
 returns-then-p-ge16 c =
     let l : length c.args.a ≡ 16 = search rules in
-    c.loop-i.invariant.1 ∙ fill-past _ _ _ c.loop-i.i c.args.n (omega arith) (omega arith)
+    c.loop-i.invariant ∙ fill-past _ _ _ c.loop-i.i c.args.n (omega arith) (omega arith)
 
 pub loop-i-preserved : goal.loop-i-preserved
-loop-i-preserved c = (omega arith, rw (c.loop-i.invariant.1, c.zero_slot-z.ensures) (sym (fill_more _ _ _ _)))
+loop-i-preserved c = rw (c.loop-i.invariant, c.zero_slot-z.ensures) (sym (fill_more _ _ _ _))
 
 pub returns : goal.returns
 returns c =
     let e : c.loop-i.i ≡ c.args.n = omega arith in
-    rw (← e) c.loop-i.invariant.1
+    rw (← e) c.loop-i.invariant

@@ -1,31 +1,31 @@
 use Rattle.ground.specs.Chain.{refuse}
-use Rattle.bundle.specs.Program.{program_of}
+use Rattle.bundle.specs.Program.{method_of, method_at, program_of}
 use Rattle.turns.specs.Answers.{unless_drawn}
 use Rattle.turns.proofs.exec.Goals as goal
 
 pub returns-in-Inc : goal.returns-in-Inc
 unfolding unless_drawn refuse
-returns-in-Inc c = λ m s l v o e f. rw c.in-Inc.is (c.inc_turn.ensures (program_of c.args.b.now) s c.args.i)
+returns-in-Inc c = λ m s l v o e f. rw c.in-Inc.is (c.inc_turn.ensures (program_of c.args.b.now) s c.args.view.now.number)
 
 pub returns-in-Pop : goal.returns-in-Pop
 unfolding unless_drawn refuse
-returns-in-Pop c = λ m s l v o e f. rw c.in-Pop.is (c.pop_turn.ensures (program_of c.args.b.now) s c.args.i)
+returns-in-Pop c = λ m s l v o e f. rw c.in-Pop.is (c.pop_turn.ensures (program_of c.args.b.now) s c.args.view.now.number)
 
 pub returns-in-Push0 : goal.returns-in-Push0
 unfolding unless_drawn refuse
-returns-in-Push0 c = λ m s l v o e f. rw (c.in-Push0.is, l) (c.push0_turn.ensures (program_of c.args.b.now) s c.args.i)
+returns-in-Push0 c = λ m s l v o e f. rw (c.in-Push0.is, l) (c.push0_turn.ensures (program_of c.args.b.now) s c.args.view.now.number)
 
 pub returns-in-Load : goal.returns-in-Load
 unfolding unless_drawn refuse
-returns-in-Load c = λ m s l v o e f. rw (c.in-Load.is, l) (c.load_turn.ensures (program_of c.args.b.now) s c.args.i)
+returns-in-Load c = λ m s l v o e f. rw (c.in-Load.is, l) (c.load_turn.ensures (program_of c.args.b.now) s c.args.view.now.number)
 
 pub returns-in-Store : goal.returns-in-Store
 unfolding unless_drawn refuse
-returns-in-Store c = λ m s l v o e f. rw c.in-Store.is (c.store_turn.ensures (program_of c.args.b.now) s c.args.i)
+returns-in-Store c = λ m s l v o e f. rw c.in-Store.is (c.store_turn.ensures (program_of c.args.b.now) s c.args.view.now.number)
 
 pub returns-in-If : goal.returns-in-If
 unfolding unless_drawn refuse
-returns-in-If c = λ m s l v o e f. rw c.in-If.is (c.if_turn.ensures (program_of c.args.b.now) s c.args.i)
+returns-in-If c = λ m s l v o e f. rw c.in-If.is (c.if_turn.ensures (program_of c.args.b.now) s c.args.view.now.number)
 
 pub returns-in-Enter : goal.returns-in-Enter
 unfolding unless_drawn refuse
@@ -41,7 +41,7 @@ returns-in-New c = λ m s l v o e f. rw (c.in-New.is, l, v) (c.new_turn.ensures 
 
 pub returns-in-Start : goal.returns-in-Start
 unfolding unless_drawn refuse program_of
-returns-in-Start c = λ m s l v o e f. rw c.in-Start.is (c.start_class.ensures (program_of c.args.b.now) s c.args.i f)
+returns-in-Start c = λ m s l v o e f. rw c.in-Start.is (c.start_class.ensures (program_of c.args.b.now) s c.args.view.now.number f)
 
 pub returns-in-Throw : goal.returns-in-Throw
 unfolding unless_drawn refuse program_of
@@ -56,9 +56,9 @@ unfolding unless_drawn refuse
 returns-in-Get c = λ m s l v o e f. rw (c.in-Get.is, l, v) (c.get_turn.ensures (program_of c.args.b.now) s e f)
 
 pub returns-in-Put : goal.returns-in-Put
-unfolding unless_drawn refuse program_of
-returns-in-Put c = λ m s l v o e f. rw (c.in-Put.is, l, v, ← c.descriptor.ensures) (c.put_turn.ensures (program_of c.args.b.now) s e f)
+unfolding unless_drawn refuse program_of method_at method_of
+returns-in-Put c = λ m s l v o e f. rw (c.in-Put.is, l, v, ← c.record_at.ensures.bytes, ← c.record_at.ensures.numbers, ← c.field_at.ensures) (c.put_turn.ensures (program_of c.args.b.now) s e f)
 
 pub returns-in-Nothing : goal.returns-in-Nothing
 unfolding unless_drawn refuse
-returns-in-Nothing c = λ m s l v o e f. rw (c.refused.ensures, c.in-Nothing.is)
+returns-in-Nothing c = λ m s l v o e f. rw (c.in-Nothing.is)

@@ -3,4 +3,4 @@ use Rattle.usage_text.proofs.after_lock.Goals as goal
 
 pub returns : goal.returns
 unfolding after_lock
-returns c = rw (c.less.ensures, c.less-above.ensures)
+returns c = cc

@@ -3,4 +3,4 @@ use Rattle.usage_text.proofs.either_of.Goals as goal
 
 pub returns : goal.returns
 unfolding either_of
-returns c = rw (c.greater-2.ensures, c.greater.ensures, c.less-v_lower.ensures, c.less-w_lower.ensures)
+returns c = cc

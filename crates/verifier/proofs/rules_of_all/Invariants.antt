@@ -1,13 +1,9 @@
-use Prim.Native.Nat.{◌≤◌, ◌-◌}
 use mathlib.Core.Path.{◌≡◌}
 use Rattle.ground.specs.Chain.{scan}
 use Rattle.verifier.specs.Places.{rule_places}
 use Rattle.verifier.specs.Loops.{searched}
-use Rattle.structure.specs.Verdicts.{is_bad, pass}
+use Rattle.verdicts.specs.Verdicts.{is_bad, pass}
 use Rattle.verifier.proofs.rules_of_all.Given as goal
 
 abbrev pub invariant-loop-c : goal.invariant-loop-c
-invariant-loop-c l = (l.c ≤ l.n) × (scan is_bad pass l.c (λ d. searched l.b (rule_places l.b d)) ≡ pass)
-
-abbrev pub decreases-loop-c : goal.decreases-loop-c
-decreases-loop-c l = l.n - l.c
+invariant-loop-c l = scan is_bad pass l.c (λ d. searched l.b (rule_places l.b d)) ≡ pass

@@ -1,12 +1,9 @@
 use Rattle.ground.specs.Bytes.{at}
 use lib.Dec.{leb}
 use mathlib.Core.Bool.{false}
-use Prim.Native.Nat.{ℕ, ◌≤◌, ◌<◌, ◌-◌}
+use Prim.Native.Nat.{ℕ, ◌<◌}
 use mathlib.Core.Path.{◌≡◌}
 use Rattle.classfile.proofs.rows.address.Given as goal
 
 abbrev pub invariant-loop-k : goal.invariant-loop-k
-invariant-loop-k l = (l.k ≤ l.all) × ((q : ℕ) → q < l.k → leb l.t (at l.starts q) ≡ false)
-
-abbrev pub decreases-loop-k : goal.decreases-loop-k
-decreases-loop-k l = l.all - l.k
+invariant-loop-k l = (q : ℕ) → q < l.k → leb l.t (at l.m.starts.now q) ≡ false

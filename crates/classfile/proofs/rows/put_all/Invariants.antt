@@ -1,10 +1,5 @@
 use Rattle.classfile.proofs.Laid.{Wrote}
-use Prim.Native.Nat.{◌-◌}
-use lib.ListN.{length}
 use Rattle.classfile.proofs.rows.put_all.Given as goal
 
-abbrev pub invariant-loop-p : goal.invariant-loop-p
-invariant-loop-p l = Wrote l.classes l.code l.table l.initial.out l.out l.p l.k
-
-abbrev pub decreases-loop-p : goal.decreases-loop-p
-decreases-loop-p l = length l.code - l.p
+abbrev pub invariant-loop-x : goal.invariant-loop-x
+invariant-loop-x l = Wrote l.m.classes.now l.m.code.now l.m.table.now l.initial.out l.out l.x-iterator l.k

@@ -6,8 +6,8 @@ returns-then-n-eq0 c = laid-zero _ _ _ _ _ _ _ c.gives-n.ensures c.if-n-eq0.true
 
 pub returns-then-n-eq1 : goal.returns-then-n-eq1
 returns-then-n-eq1 c =
-    laid_one _ _ _ _ _ _ _ c.gives-n.ensures c.if-n-eq1.true c.row_of-x.ensures c.put.ensures
+    laid_one _ _ _ _ _ _ _ c.gives-n.ensures c.if-n-eq1.true c.row_of-first.ensures c.put.ensures
 
 pub returns : goal.returns
 returns c =
-    laid-three _ _ _ _ _ _ _ c.gives-n.ensures c.if-n-eq0.false c.if-n-eq1.false c.row_of-x.ensures (rows_fit c.requires.6 c.requires.7) c.put.ensures c.row.ensures c.put-2.ensures c.row-2.ensures c.put-3.ensures
+    laid-three _ _ _ _ _ _ _ c.gives-n.ensures c.if-n-eq0.false c.if-n-eq1.false c.row_of-first.ensures (rows_fit c.requires.3 c.requires.4) c.put.ensures c.row.ensures c.put-2.ensures c.row-2.ensures c.put-3.ensures

@@ -1,10 +1,9 @@
+use Rattle.std.proofs.Common.{◌-◌}
 use Rattle.offsets.proofs.Turns.{Walked}
-use lib.ListN.{length}
-use Prim.Native.Nat.{◌-◌}
 use Rattle.offsets.proofs.places.walk.Given as goal
 
-abbrev pub invariant-loop-p : goal.invariant-loop-p
-invariant-loop-p l = Walked l.code l.t l.p l.k
+abbrev pub invariant-loop-x : goal.invariant-loop-x
+invariant-loop-x l = Walked l.code l.t l.x.at l.x.count
 
-abbrev pub decreases-loop-p : goal.decreases-loop-p
-decreases-loop-p l = length l.code - l.p
+abbrev pub decreases-loop-x : goal.decreases-loop-x
+decreases-loop-x l = l.t - l.x.at

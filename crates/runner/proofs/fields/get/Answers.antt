@@ -4,7 +4,7 @@ use Rattle.runner.proofs.fields.get.Goals as goal
 
 pub returns-then-w-ge-NULL : goal.returns-then-w-ge-NULL
 unfolding got_in
-returns-then-w-ge-NULL c = rw (← c.top-w.ensures, le-leb _ _ c.if-w-ge-NULL.true, c.throw.ensures.0, c.throw.ensures.1)
+returns-then-w-ge-NULL c = rw (← c.top-w.ensures, le-leb _ _ c.if-w-ge-NULL.true) c.throw.ensures
 
 pub returns : goal.returns
 unfolding got_in

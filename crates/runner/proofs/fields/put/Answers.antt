@@ -4,7 +4,7 @@ use Rattle.runner.proofs.fields.put.Goals as goal
 
 pub returns-then-w-ge-NULL : goal.returns-then-w-ge-NULL
 unfolding put_in
-returns-then-w-ge-NULL c = rw (← c.under-w.ensures, le-leb _ _ c.if-w-ge-NULL.true, c.throw.ensures.0, c.throw.ensures.1)
+returns-then-w-ge-NULL c = rw (← c.under-w.ensures, le-leb _ _ c.if-w-ge-NULL.true) c.throw.ensures
 
 pub returns : goal.returns
 unfolding put_in

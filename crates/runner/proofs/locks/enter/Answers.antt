@@ -4,7 +4,7 @@ use Rattle.runner.proofs.locks.enter.Goals as goal
 
 pub returns-then-w-ge-NULL : goal.returns-then-w-ge-NULL
 unfolding entered_in
-returns-then-w-ge-NULL c = rw (← c.var-w.ensures, le-leb _ _ c.if-w-ge-NULL.true, c.throw.ensures.0, c.throw.ensures.1)
+returns-then-w-ge-NULL c = rw (← c.var-w.ensures, le-leb _ _ c.if-w-ge-NULL.true) c.throw.ensures
 
 pub returns-then-held_by_other : goal.returns-then-held_by_other
 unfolding entered_in

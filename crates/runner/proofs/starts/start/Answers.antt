@@ -1,11 +1,11 @@
 use Rattle.runner.specs.Starts.{started_in}
-use borrow.Author.Tests.{le-leb, lt-leb}
+use borrow.Author.Tests.{lt-leb}
 use Rattle.runner.proofs.starts.start.Goals as goal
 
-pub returns-then-j-ge8 : goal.returns-then-j-ge8
+pub returns-in-None : goal.returns-in-None
 unfolding started_in
-returns-then-j-ge8 c = rw (← c.lowest-j.ensures.0, le-leb _ _ c.if-j-ge8.true)
+returns-in-None c = rw (← c.in-None.ensures.place)
 
-pub returns : goal.returns
+pub returns-in-Some : goal.returns-in-Some
 unfolding started_in
-returns c = rw (← c.lowest-j.ensures.0, lt-leb _ _ c.if-j-ge8.false, c.drop.ensures, c.begin.ensures, c.arguments-vars.ensures)
+returns-in-Some c = rw (← c.in-Some.ensures.place, lt-leb _ _ c.in-Some.ensures.within, c.drop.ensures, c.begin.ensures, c.arguments-vars.ensures)

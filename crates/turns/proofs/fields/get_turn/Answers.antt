@@ -1,5 +1,4 @@
 use borrow.Author.Tests.{lt-leb, le-leb}
-use Rattle.ground.proofs.Bools.{passed, failed}
 use Rattle.ground.specs.Chain.{refuse}
 use Rattle.threads.specs.Threads.{topped}
 use Rattle.turns.specs.Answers.{unless_drawn}
@@ -7,16 +6,16 @@ use Rattle.turns.proofs.fields.get_turn.Goals as goal
 
 pub returns-then-t-lt1 : goal.returns-then-t-lt1
 unfolding unless_drawn refuse
-returns-then-t-lt1 c = λ P s e f. rw (c.refused.ensures, lt-leb _ _ c.if-t-lt1.true)
+returns-then-t-lt1 c = λ P s e f. rw (lt-leb _ _ c.if-t-lt1.true)
 
 pub returns-then-not-may_be_object : goal.returns-then-not-may_be_object
 unfolding unless_drawn refuse
-returns-then-not-may_be_object c = λ P s e f. rw (c.refused-then-not-may_be_object.ensures, le-leb _ _ c.if-t-lt1.false, ← c.top-x.ensures, f, failed c.may_be_object.ensures c.if-not-may_be_object.true-raw)
+returns-then-not-may_be_object c = λ P s e f. rw (le-leb _ _ c.if-t-lt1.false, ← c.top-x.ensures, f, rw c.may_be_object.ensures at c.if-not-may_be_object.true)
 
 pub returns-then-is_null : goal.returns-then-is_null
 unfolding refuse
-returns-then-is_null c = λ P s e f. rw (le-leb _ _ c.if-t-lt1.false, ← c.top-x.ensures, rw (← f) at (passed c.may_be_object.ensures c.if-not-may_be_object.false-raw), ← c.is_null.ensures, c.if-is_null.true, ← c.ref_slot.ensures) (c.throw_turn.ensures P s e)
+returns-then-is_null c = λ P s e f. rw (le-leb _ _ c.if-t-lt1.false, ← c.top-x.ensures, rw (← f) at (rw c.may_be_object.ensures at c.if-not-may_be_object.false), ← c.is_null.ensures, c.if-is_null.true, ← c.ref_slot.ensures) (c.throw_turn.ensures P s e)
 
 pub returns : goal.returns
 unfolding unless_drawn refuse topped
-returns c = λ P s e f. rw (c.went_on.ensures, c.object_of.ensures, le-leb _ _ c.if-t-lt1.false, ← c.top-x.ensures, f, passed c.may_be_object.ensures c.if-not-may_be_object.false-raw, ← c.is_null.ensures, c.if-is_null.false)
+returns c = λ P s e f. rw (c.went_on.ensures, c.object_of.ensures, le-leb _ _ c.if-t-lt1.false, ← c.top-x.ensures, f, rw c.may_be_object.ensures at c.if-not-may_be_object.false, ← c.is_null.ensures, c.if-is_null.false)

@@ -5,7 +5,7 @@ use Rattle.turns.proofs.stack.load_turn.Goals as goal
 
 pub returns-then-limit-t : goal.returns-then-limit-t
 unfolding unless_drawn refuse
-returns-then-limit-t c = λ P s i. rw (c.refused.ensures, le-ltb _ _ c.if-limit-t.true)
+returns-then-limit-t c = λ P s i. rw (le-ltb _ _ c.if-limit-t.true)
 
 pub returns : goal.returns
 unfolding unless_drawn refuse

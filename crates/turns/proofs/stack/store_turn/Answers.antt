@@ -5,7 +5,7 @@ use Rattle.turns.proofs.stack.store_turn.Goals as goal
 
 pub returns-then-t-lt1 : goal.returns-then-t-lt1
 unfolding unless_drawn refuse
-returns-then-t-lt1 c = λ P s i. rw (c.refused.ensures, lt-leb _ _ c.if-t-lt1.true)
+returns-then-t-lt1 c = λ P s i. rw (lt-leb _ _ c.if-t-lt1.true)
 
 pub returns : goal.returns
 unfolding unless_drawn refuse

@@ -1,6 +1,0 @@
-use Rattle.bundle.specs.Container.{instruction_at}
-use Rattle.bundle.proofs.instruction_at.Goals as goal
-
-pub returns : goal.returns
-unfolding instruction_at
-returns c = rw (← c.code_at.ensures) c.instruction_of.ensures

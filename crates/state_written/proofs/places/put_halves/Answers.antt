@@ -1,7 +1,0 @@
-use Rattle.state_written.specs.Written.{written}
-use native.Mathlib.Numerals.{add-one}
-use Rattle.state_written.proofs.places.put_halves.Goals as goal
-
-pub returns : goal.returns
-unfolding written
-returns c = rw (c.low-2.ensures, c.low.ensures, add-one)

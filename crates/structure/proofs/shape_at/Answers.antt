@@ -1,4 +1,0 @@
-use Rattle.structure.proofs.shape_at.Goals as goal
-
-pub returns : goal.returns
-returns c = c.shape_of.ensures

@@ -1,0 +1,4 @@
+pub mod Inverse
+pub mod Refusals
+pub mod Answers
+pub mod Texts
