@@ -77,13 +77,10 @@ module _ (g : Given) (z : refusal_of g ≡ 0) where
       )
 
   module _ (c : ℕ) (l : c < g.classes) where
-    class-laid : class_at b c ≡ placed g.directory c
-    class-laid = class-is m c l
-
     -- never 5
     fits : record_fits b (class_at b c) ≡ true
     unfolding record_fits
-    fits = rw class-laid (le-leb _ _ (woven.extent g m c l))
+    fits = rw (class-is m c l) (le-leb _ _ (woven.extent g m c l))
 
     -- before the directory, and behind every lower class's record
     before-directory : (placed g.directory c).offset + size (placed g.directory c) ≤ records_before g.directory g.classes
@@ -97,14 +94,14 @@ module _ (g : Given) (z : refusal_of g ≡ 0) where
   unfolding apart_from apart
   lower c e l h =
       let k : e < g.classes = omega arith in
-      rw (class-laid c l, class-laid e k)
+      rw (class-is m c l, class-is m e k)
       (rw (le-leb ((placed g.directory e).offset + size (placed g.directory e)) (placed g.directory c).offset (omega (arith, woven.size_is g m e k, woven.offset-is g m e k, woven.offset-is g m c l, behind-lower c l e h)))
       (or-true (leb ((placed g.directory c).offset + size (placed g.directory c)) (placed g.directory e).offset)))
 
   class-apart : (c : ℕ) → c < g.classes → class_apart b c ≡ true
   unfolding class_apart directory_apart lower_apart apart
   class-apart c l =
-      and_both (directory_apart b (class_at b c)) (lower_apart b (class_at b c) c) (rw (class-laid c l, directory-is m, le-leb _ _ (before-directory c l)))
+      and_both (directory_apart b (class_at b c)) (lower_apart b (class_at b c) c) (rw (class-is m c l, directory-is m, le-leb _ _ (before-directory c l)))
       (all-intro (apart_from b (class_at b c)) c (λ e h. lower c e l h))
 
   -- never 23

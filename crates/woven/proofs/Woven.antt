@@ -158,9 +158,6 @@ module _ (g : Given) (z : refusal_of g ≡ 0) where
       lc : c < classes b
       lc = rw count l
 
-      laid-class : class_at b c ≡ placed g.directory c
-      laid-class = class-is m c l
-
       same : class_at x c ≡ class_at b c
       same = class_same b R x A c lc
 
@@ -168,15 +165,15 @@ module _ (g : Given) (z : refusal_of g ≡ 0) where
       unfolding program_of method_at method_of place_of depth_of placed
       of_class =
           record {
-            numbers = same ∙ laid-class;
-            descriptor = λ i h. rw same (code_same b R x A c lc i (rw laid-class (omega arith)) ∙ rw laid-class (descriptor-laid g m c l i h));
+            numbers = same ∙ class-is m c l;
+            descriptor = λ i h. rw same (code_same b R x A c lc i (rw (class-is m c l) (omega arith)) ∙ rw (class-is m c l) (descriptor-laid g m c l i h));
             instruction = λ a low high.
-                rw same (instruction-same b R x A c lc a low (rw laid-class high) ∙ rw laid-class (instruction-laid g m c l a low high));
+                rw same (instruction-same b R x A c lc a low (rw (class-is m c l) high) ∙ rw (class-is m c l) (instruction-laid g m c l a low high));
             kind = λ a s low high h.
-                rw same (kind-same b R x A c lc a low (rw laid-class high) s (rw laid-class h) ∙ kind-laid g m c l laid-class a low high s h);
+                rw same (kind-same b R x A c lc a low (rw (class-is m c l) high) s (rw (class-is m c l) h) ∙ kind-laid g m c l (class-is m c l) a low high s h);
             kind_class = λ a s low high h.
-                rw same (kind-class-same b R x A c lc a low (rw laid-class high) s (rw laid-class h) ∙ kind-class-laid g m c l laid-class a low high s h);
-            depth = λ a low high. rw same (depth_same b R x A c lc a low (rw laid-class high) ∙ depth-laid g m c l laid-class a low high);
+                rw same (kind-class-same b R x A c lc a low (rw (class-is m c l) high) s (rw (class-is m c l) h) ∙ kind-class-laid g m c l (class-is m c l) a low high s h);
+            depth = λ a low high. rw same (depth_same b R x A c lc a low (rw (class-is m c l) high) ∙ depth-laid g m c l (class-is m c l) a low high);
           }
 
   woven : (x : List ℕ) → Readable b → Least b x → Woven g x
