@@ -1,5 +1,5 @@
 -- Where fields stand: field f of object o has the place o * 4 + f, and no two fields share one. What a field weighs, and what a new object's fields hold.
-use Prim.Native.Nat.{ℕ, zero, suc, ◌+◌, ◌*◌, ◌≤◌, ◌<◌}
+use Prim.Native.Nat.{ℕ, ◌+◌, ◌*◌, ◌≤◌, ◌<◌}
 use mathlib.Core.Path.{◌≡◌, refl, ◌∙◌}
 use mathlib.Core.Logic.{◌≢◌}
 use mathlib.Core.List.{List}
@@ -16,6 +16,7 @@ use Rattle.values.specs.declared.Slot.{Slot}
 use Rattle.values.specs.Values.{zero_slot, null_slot}
 use Rattle.state.specs.State.{field_of, fields_with}
 use Rattle.turns.specs.Moves.{first_field, first_fields}
+use Rattle.machine.proofs.Changes.{first-at}
 use Rattle.soundness.specs.Balance.{Matches}
 
 -- what a field holds weighs nothing
@@ -73,13 +74,6 @@ module _ (l : List Slot) (o : ℕ) (first : List Slot) where
       at j e q = rw (← e) (new q)
 
 -- ---- each field of a new object holds what its descriptor allows: integer 0 or null
-first-at : (m : Method) (f : ℕ) → f < 4 → get_or (first_fields m) f zero_slot ≡ first_field m f
-first-at m zero lf = refl
-first-at m (suc zero) lf = refl
-first-at m (suc (suc zero)) lf = refl
-first-at m (suc (suc (suc zero))) lf = refl
-first-at m (suc (suc (suc (suc f)))) lf = absurd (omega arith)
-
 first_kind : (n : ℕ) (cls : ℕ → ℕ) (m : Method) (f : ℕ) → f < m.fields → Matches n cls (field_entry (m.field f)) (first_field m f).value
 unfolding field_entry
 first_kind n cls m f l = rw (lt-ltb f m.fields l) (go (eqb (m.field f) 255))
