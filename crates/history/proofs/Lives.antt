@@ -7,17 +7,16 @@ use lib.Dec.{ltb}
 use lib.ListN.{set}
 use native.Mathlib.Omega.{arith}
 use native.Mathlib.Decide.{dec_lt}
-use borrow.Author.Tests.{not-true}
 use Rattle.ground.proofs.Bools.{never}
-use Rattle.ground.proofs.Bounded.{first-is}
 use Rattle.bundle.specs.Program.{Program}
 use Rattle.values.specs.declared.Slot.{Slot}
 use Rattle.threads.specs.declared.Thread.{Thread}
 use Rattle.threads.specs.Threads.{with_stack, topped, pushed, popped, stored, ended, started}
 use Rattle.state.specs.declared.State.{State}
-use Rattle.state.specs.State.{thread_at, count_of, with_object, not_live, lowest_free}
+use Rattle.state.specs.State.{count_of, with_object, lowest_free}
 use Rattle.belongs.proofs.Belongs.{Belongs}
 use Rattle.machine.proofs.Changes.{grown}
+use Rattle.machine.proofs.Clean.{free-idle}
 
 pub topped-live : (t : Thread) (x : Slot) → (topped t x).live ≡ t.live
 unfolding topped
@@ -56,12 +55,7 @@ made s c first = go (ltb s.objects 32)
     go true = (refl, refl)
     go false = (refl, refl)
 
--- a number that is free has no live thread
-free-idle : (s : State) → lowest_free s < 8 → (thread_at s (lowest_free s)).live ≡ false
-unfolding lowest_free
-free-idle s l = not-true _ (first-is 8 (not_live s) l)
-
--- .. and so holds nothing
+-- a number that is free has no live thread, and so holds nothing
 pub free-holds-nothing : (P : Program) (s : State) → Belongs P s → lowest_free s < 8 → (o : ℕ) → o < 32 → count_of s.counts (lowest_free s) o ≡ 0
 free-holds-nothing P s g l o k = go (dec_lt 0 (count_of s.counts (lowest_free s) o))
   where

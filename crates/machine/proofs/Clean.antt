@@ -83,7 +83,7 @@ object-clean P s h c = go (ltb s.objects 32) refl
     go false a = h
 
 -- start takes the number of a thread that isn't live
-free-idle : (s : State) → lowest_free s < 8 → (thread_at s (lowest_free s)).live ≡ false
+pub free-idle : (s : State) → lowest_free s < 8 → (thread_at s (lowest_free s)).live ≡ false
 unfolding lowest_free
 free-idle s l = not-true _ (first-is 8 (not_live s) l)
 
