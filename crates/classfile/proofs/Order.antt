@@ -1,8 +1,8 @@
 -- The refusals in their order, one law for each place at which the code returns; and the parts of the attribute.
 use mathlib.Core.Path.{◌≡◌, refl, ◌∙◌}
-use mathlib.Core.Bool.{Bool, true, false}
+use mathlib.Core.Bool.{Bool, true, false, cond}
 use mathlib.Core.List.{List}
-use Prim.Native.Nat.{ℕ, suc, ◌+◌, ◌*◌, ◌/◌, ◌≤◌, ◌<◌}
+use Prim.Native.Nat.{ℕ, zero, suc, ◌+◌, ◌*◌, ◌/◌, ◌≤◌, ◌<◌}
 use native.Mathlib.Omega.{arith}
 use lib.ListN.{length}
 use lib.Dec.{leb}
@@ -14,7 +14,8 @@ use Rattle.ground.proofs.Bools.{and-snd}
 use Rattle.offsets.specs.Offsets.{total}
 use Rattle.offsets.specs.Handlers.{entries, handler_of}
 use Rattle.offsets.specs.Targets.{first_stray, first_stray_entry}
-use Rattle.offsets.specs.Offenders.{first_unknown, first_past}
+use Rattle.ground.specs.Bounded.{first_below}
+use Rattle.offsets.specs.Offenders.{first_unknown, past_at, first_past}
 use Rattle.classfile.specs.Attribute.{code_length, table_at, table_end, whole, code_of, table_of}
 use Rattle.classfile.specs.Written.{laid_over}
 use Rattle.std.specs.Prelude.{Err}
@@ -78,6 +79,20 @@ roomy classes code table room e =
     let h₅ = passes _ 33 _ _ h₄.1 in
     let l : total code ≤ room / 4 = leb-true (total code) (room / 4) h₅.0 in
     (leb-true (total code) 256 h₄.0, omega arith)
+
+-- the offset of a search stays within the code
+first_under : (n : ℕ) (p : ℕ → Bool) → first_below n p ≤ n
+unfolding first_below
+first_under zero p = omega arith
+first_under (suc n) p = go (p 0) (first_under n (λ i. p (suc i)))
+  where
+    go : (t : Bool) → first_below n (λ i. p (suc i)) ≤ n → cond t 0 (suc (first_below n (λ i. p (suc i)))) ≤ suc n
+    go true h = omega arith
+    go false h = omega arith
+
+pub past-under : (code : List ℕ) (limit : ℕ) {f : ℕ} → f ≡ first_past code limit → f ≤ length code
+unfolding first_past
+past-under code limit e = rw e (first_under (length code) (past_at code limit))
 
 -- ---- the parts of the attribute
 pub whole-end : (a : List ℕ) → whole a ≡ true → (table_end a ≤ length a) × (table_at a + 2 ≤ table_end a)

@@ -7,7 +7,7 @@ use borrow.Author.Tests.{eqb-true, eqb-false, eq-eqb, ne_eqb, le-leb}
 use native.Mathlib.Omega.{arith}
 use Rattle.ground.specs.Chain.{refuse}
 use Rattle.ground.proofs.Bools.{never}
-use Rattle.entries.specs.Entries.{Entry, Int, Top, Ref, Nullable, Blank, Malformed, zeros, pair_ok, nullable_ok, entry_of, class_of, dip_of, end_of, is_int, is_top, is_blank, is_reference, is_nullable, is_type, may_be_of, no_end}
+use Rattle.entries.specs.Entries.{Entry, Int, Top, Ref, Nullable, Blank, Malformed, zeros, pair_ok, nullable_ok, entry_of, kind_of, class_of, dip_of, end_of, is_int, is_top, is_blank, is_reference, is_nullable, is_type, may_be_of, no_end}
 use Rattle.entries.specs.Fits.{takes, Want, compare, want}
 
 -- of a test of the bytes: that it holds for each kind is that it holds for all
@@ -134,6 +134,14 @@ module _ (n c d e : ℕ) where
       (λ kind p0 p1 p2 p3 p4 h. never (rw (p0, p1, p2, p3, p4) at h) refl)
 
 -- ---- the other entries
+pub no-class : (x : Entry) → (is_reference x || is_nullable x) ≡ false → 0 ≡ class_of x
+no-class Int h = refl
+no-class Top h = refl
+no-class (Ref c d e) h = never refl h
+no-class (Nullable c) h = never refl h
+no-class Blank h = refl
+no-class Malformed h = refl
+
 pub no-dip : (x : Entry) → is_reference x ≡ false → 0 ≡ dip_of x
 no-dip Int h = refl
 no-dip Top h = refl
@@ -158,6 +166,15 @@ type-told (Ref c d e) = refl
 type-told (Nullable c) = refl
 type-told Blank = refl
 type-told Malformed = refl
+
+-- the kind by one test after another
+pub kind-told : (x : Entry) → cond (is_reference x) 3 (cond (is_int x) 1 (cond (is_top x) 2 (cond (is_nullable x) 4 (cond (is_blank x) 0 5)))) ≡ kind_of x
+kind-told Int = refl
+kind-told Top = refl
+kind-told (Ref c d e) = refl
+kind-told (Nullable c) = refl
+kind-told Blank = refl
+kind-told Malformed = refl
 
 -- ---- what Int, and a class with (0,0), come to
 pub int-compared : (y : Entry) → refuse (is_int y || is_top y) 1 0 ≡ compare Int (want y)

@@ -150,6 +150,13 @@ module _ {g : Given} (m : Measured g) where
 
 -- ---- a class's parts, as the code cuts them
 module _ (g : Given) (c : ℕ) (s r : Sizes) (k : Class) (e : s ≡ sizes_of g.directory c) (f : k ≡ numbers_at g.directory c) (h : r ≡ more s k) where
+  pub ends : Within g c
+      → (s.descriptors ≤ r.descriptors) × (r.descriptors ≤ length g.descriptors) × (s.instructions ≤ r.instructions) × (r.instructions ≤ length g.instructions)
+      × (s.kinds ≤ r.kinds) × (r.kinds ≤ length g.kinds) × (s.depths ≤ r.depths) × (r.depths ≤ length g.depths)
+  ends w =
+      rw (h, e, f)
+      (omega arith, w.descriptors, omega arith, w.instructions, omega arith, w.kinds, omega arith, w.depths)
+
   pub record_is : record_laid k (part g.descriptors s.descriptors r.descriptors) (part g.instructions s.instructions r.instructions) (part g.kinds s.kinds r.kinds) (part g.depths s.depths r.depths)
       ≡ record_of g c
   unfolding record_of

@@ -7,9 +7,10 @@ use Prim.Native.Nat.{ℕ, zero, suc, ◌+◌, ◌-◌, ◌<◌, ◌≤◌}
 use native.Mathlib.Nat.{le_of_suc-le-suc, eq-or-lt_of_le}
 use native.Mathlib.Numerals.{add-one}
 use native.Mathlib.Omega.{arith}
-use lib.ListN.{length, take, drop, length-append, length-take, length-drop}
-use lib.Seq.{take_at, drop-append-add, drop-drop, paste-zero}
-use Rattle.ground.specs.Lists.{each}
+use lib.ListN.{length, take, drop, set, length-append, length-take, length-drop}
+use lib.Seq.{take_at, drop-append-add, drop-drop, sets-eq, paste-zero, take-suc, take-length}
+use Rattle.ground.specs.Bytes.{at}
+use Rattle.ground.specs.Lists.{each, numbered}
 use Rattle.laying.specs.Laying.{over}
 use Rattle.laying.specs.Loops.{Lays, Room}
 
@@ -17,6 +18,10 @@ module _ (out : List ℕ) (p : ℕ) where
   over_none : over out p [] ≡ out
   unfolding over
   over_none = sym (paste-zero out p [])
+
+  over-one : (x : ℕ) → p + 1 ≤ length out → set out p x ≡ over out p (x ∷ [])
+  unfolding over
+  over-one x h = sets-eq (x ∷ []) out p h
 
   over-length : (xs : List ℕ) → p + length xs ≤ length out → length (over out p xs) ≡ length out
   unfolding over
@@ -37,6 +42,9 @@ module _ (out : List ℕ) (p : ℕ) where
 
   pub lays-none : Lays out p [] p out
   lays-none = record { next = omega arith; bytes = sym over_none }
+
+  pub lays_one : (x : ℕ) → Room out p (x ∷ []) → Lays out p (x ∷ []) (p + 1) (set out p x)
+  lays_one x h = record { next = refl; bytes = over-one x h }
 
   module _ {xs : List ℕ} {q : ℕ} {o : List ℕ} (a : Lays out p xs q o) where
     pub lays-long : Room out p xs → length o ≡ length out
@@ -82,6 +90,45 @@ module _ (f : ℕ → List ℕ) (out : List ℕ) (p : ℕ) where
   each-room n i l h a =
       let w = each_within f n i l in
       omega (arith, a.next, lays-long out p a (omega arith))
+
+  pub each_long : {q : ℕ} {o : List ℕ} (n i : ℕ) → i ≤ n → Room out p (each n f) → Lays out p (each i f) q o → length o ≡ length out
+  each_long n i l h a =
+      ⊎_elim (λ e. lays-long out p a (rw e h)) (λ k. let w = each_within f n i k in lays-long out p a (omega arith)) (eq-or-lt_of_le l)
+
+  pub each-done : {q : ℕ} {o : List ℕ} (n i : ℕ) → i ≤ n → n ≤ i → Lays out p (each i f) q o → Lays out p (each n f) q o
+  each-done n i l k a = let e : i ≡ n = omega arith in rw e at a
+
+-- all of a string, byte by byte
+taken-all : (s : List ℕ) (n : ℕ) → n ≤ length s → numbered n (at s) ≡ take n s
+unfolding each
+taken-all s zero h = refl
+taken-all s (suc n) h = ap (λ (l : List ℕ). l ++ (at s n ∷ [])) (taken-all s n (omega arith)) ∙ sym (take-suc s n 0 (omega arith))
+
+bytes-all : (s : List ℕ) → numbered (length s) (at s) ≡ s
+bytes-all s = taken-all s (length s) (omega arith) ∙ take-length s
+
+abbrev bytes : List ℕ → ℕ → List ℕ
+bytes s i = at s i ∷ []
+
+module _ (src out : List ℕ) (p : ℕ) (h : Room out p src) where
+  bytes-room : Room out p (numbered (length src) (at src))
+  bytes-room = rw (bytes-all src) h
+
+  pub all_none : Lays out p (numbered 0 (at src)) p out
+  all_none = each_none (bytes src) out p
+
+  module _ {q : ℕ} {o : List ℕ} (i : ℕ) (a : Lays out p (numbered i (at src)) q o) where
+    pub all_more : {r : ℕ} {o' : List ℕ} → i < length src → Lays o q (at src i ∷ []) r o' → Lays out p (numbered (i + 1) (at src)) r o'
+    all_more l b = each_more (bytes src) out p (length src) i l bytes-room a b
+
+    pub all_room : i < length src → Room o q (at src i ∷ [])
+    all_room l = each-room (bytes src) out p (length src) i l bytes-room a
+
+    pub all_done : i ≤ length src → length src ≤ i → Lays out p src q o
+    all_done l k = rw (bytes-all src) at (each-done (bytes src) out p (length src) i l k a)
+
+    pub all-long : i ≤ length src → length o ≡ length out
+    all-long l = each_long (bytes src) out p (length src) i l bytes-room a
 
 -- a part of out that src is copied over
 pub lays_copied : (out : List ℕ) (p : ℕ) (src new : List ℕ) → new ≡ src → Lays out p src (p + length src) (put_mid p (p + length src - p) out new)

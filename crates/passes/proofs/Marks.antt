@@ -3,18 +3,19 @@ use mathlib.Core.List.{List}
 use mathlib.Core.Path.{◌≡◌, refl, sym, ap, ◌∙◌}
 use mathlib.Core.Logic.{inl, inr}
 use mathlib.Core.Bool.{Bool, true, false, cond, ◌||◌}
-use Prim.Native.Nat.{ℕ, zero, suc, ◌+◌, ◌*◌, ◌≤◌, ◌<◌}
+use Prim.Native.Nat.{ℕ, zero, suc, ◌+◌, ◌*◌, ◌-◌, ◌≤◌, ◌<◌}
 use native.Mathlib.Omega.{arith}
-use native.Mathlib.Decide.{ℕ_discrete}
+use native.Mathlib.Decide.{ℕ_discrete, dec_lt}
 use lib.ListN.{length, get_or, set, length-set, replicate}
 use lib.Seq.{get_or-set_same, get_or-set_other}
 use lib.Dec.{eqb}
 use borrow.Author.Tests.{eq-eqb}
+use Rattle.std.specs.Prelude.{Option, Some, None}
 use Rattle.ground.specs.Bytes.{at}
 use Rattle.ground.specs.Bounded.{count_below}
 use Rattle.ground.proofs.Bools.{never, or-true}
 use Rattle.ground.proofs.Bounded.{count_under}
-use Rattle.ground.proofs.Writes.{set_below_lem}
+use Rattle.ground.proofs.Writes.{set_below_lem, set-length}
 use Rattle.bundle.specs.declared.Class.{Class}
 use Rattle.bundle.specs.Container.{classes, class_at, part_of, instruction_at}
 use Rattle.structure.proofs.Structured.{class-limits}
@@ -23,7 +24,7 @@ use Rattle.shape.proofs.Readable.{good}
 use Rattle.choices.specs.Asked.{Enough}
 use Rattle.choices.proofs.Choices.{instruction-same}
 use Rattle.passes.specs.Passes.{Lower, room, goal_of, code_of, Reads, Raised, Given, GivenClass, EverySlot, ClassSettled, Settled}
-use Rattle.passes.specs.Marks.{is_marked, marks_left, goal_at, goals, Marked, Looked, Going}
+use Rattle.passes.specs.Marks.{is_marked, marks_left, goal_at, goals, Marked, Found, Looked, Going}
 use Rattle.passes.proofs.Writes.{reads}
 use Rattle.passes.proofs.Clears.{class-is, count-is}
 
@@ -92,6 +93,10 @@ module _ (k : Class) (r : List ℕ) where
   unfolding goals
   goal-at h l q = set_below_lem (goal_at k r) (replicate 257 0) (k.code + 1) l 0 (omega arith) (omega arith)
 
+  pub goals-long : length (goals k r) ≡ 257
+  unfolding goals
+  goals-long = set-length (goal_at k r) (replicate 257 0) (k.code + 1)
+
 -- ---- the rows that read row l are marked, place after place
 abbrev pub MarkedBelow : List ℕ → ℕ → ℕ → List Bool → List Bool → Type 0
 MarkedBelow g i l m m' = (length m' ≡ length m) × ((j : ℕ) → is_marked m' j ≡ false → is_marked m j ≡ false) × ((j : ℕ) → j < i → l ≡ at g j → is_marked m' j ≡ true)
@@ -159,6 +164,30 @@ module _ (g : List ℕ) (l : ℕ) (m : List Bool) where
           go : (t : Bool) → is_marked m' j ≡ t → is_marked m' j ≡ false
           go true d = never (on j d) q
           go false d = d
+
+-- ---- marks are looked for, from the last place on
+pub found-on : (m : List Bool) (l top : ℕ) → ((j : ℕ) → l < j → j ≤ top → is_marked m j ≡ false) → is_marked m l ≡ false → (j : ℕ) → l - 1 < j → j ≤ top → is_marked m j ≡ false
+found-on m l top f e j h q = go (dec_lt l j)
+  where
+    go : Dec (l < j) → is_marked m j ≡ false
+    go (yes k) = f j k q
+    go (no k) = let d : j ≡ l = omega arith in rw d e
+
+-- up to `from` first, then above it
+module _ (m : List Bool) (code from : ℕ) where
+  pub found_first : (l : ℕ) → Found m 0 from (Some l) → from ≤ code → Found m 0 code (Some l)
+  found_first l d f = (d.0, omega (arith, d.1), d.2)
+
+  pub found-second : Found m 0 from None → (o : Option ℕ) → Found m from code o → Found m 0 code o
+  found-second d None f = λ j h q. go j h q (dec_lt from j)
+    where
+      go : (j : ℕ) → 0 < j → j ≤ code → Dec (from < j) → is_marked m j ≡ false
+      go j h q (yes k) = f j k q
+      go j h q (no k) = d j h (omega arith)
+  found-second d (Some l) f = (omega (arith, f.0), f.1, f.2)
+
+pub found-upto : (m : List Bool) (code l : ℕ) → Found m 0 code (Some l) → l ≤ code
+found-upto m code l d = d.1
 
 -- ---- a look at row l
 module _ (n c : ℕ) (k : Class) (g : List ℕ) (l : ℕ) (m : List Bool) (x : List ℕ) where

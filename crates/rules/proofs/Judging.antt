@@ -17,8 +17,12 @@ use Rattle.ground.proofs.Bools.{and-false, never}
 use Rattle.ground.specs.Chain.{refuse, or_then}
 use Rattle.entries.proofs.Types.{compare-few}
 use Rattle.matching.specs.Matching.{Edge, meets, then_short, edge_short, variable_short, entry_short}
-use Rattle.matching.proofs.Scans.{then-few, first-few}
-use Rattle.rules.specs.Rule.{Rule, rule, all_meet, met, short_along, short_of, rule_holds, why, unmet, ruling, ruling_in, asked}
+use Rattle.matching.proofs.Scans.{then-nothing, then-few, first-few}
+use Rattle.rules.specs.Rule.{Rule, Ruling, rule, all_meet, met, short_along, short_of, rule_holds, why, unmet, ruling, ruling_in, asked}
+
+-- a ruling of what is asked, and of the comparisons
+abbrev pub judged : Bool → ℕ → Ruling
+judged a w = refuse a unmet (record { met = true; short = w })
 
 module _ (vars : ℕ) (r : Rule) where
   pub ruling-holds : ((ruling vars r).met && eqb (ruling vars r).short 0) ≡ rule_holds vars r
@@ -69,6 +73,25 @@ and-swap true false true = refl
 and-swap true false false = refl
 and-swap false b c = refl
 
+module _ (vars : ℕ) (a : Bool) where
+  pub ruling-none : ruling vars (rule a []) ≡ judged a 0
+  unfolding ruling met short_of
+  ruling-none = rw (and-true a)
+
+  pub ruling-one : (e : Edge) → ruling vars (rule a (e ∷ [])) ≡ judged (a && meets e) (edge_short vars e)
+  unfolding ruling met short_of
+  ruling-one e = rw (and-true (meets e), then-nothing (edge_short vars e))
+
+  -- any number of edges
+  pub ruling-any : (es : List Edge) → ruling vars (rule a es) ≡ judged (a && all_meet es) (short_along vars es)
+  unfolding ruling met short_of
+  ruling-any es = refl
+
+  -- any number of edges after the first
+  pub ruling-more : (e : Edge) (es : List Edge) → ruling vars (rule a (e ∷ es)) ≡ judged ((a && all_meet es) && meets e) (then_short (edge_short vars e) (short_along vars es))
+  unfolding ruling met short_of
+  ruling-more e es = rw (and-swap a (all_meet es) (meets e))
+
 -- ---- what the code answers: what is asked stands in a flag b, and comparisons follow
 pub answered : {E : Type 0} (v : Result Unit E) {w : E} → IsErrAnd v (λ y. y ≡ w) → v ≡ Err w
 answered (Ok x) h = absurd h
@@ -116,7 +139,7 @@ pub fits-then : {k n m : ℕ} → 0 ≡ n → k ≡ m → k ≡ then_short n m
 unfolding or_then
 fits-then h q = rw (← h) q
 
--- ---- what is met, where depths come last
+-- ---- what is asked and what is short, apart; depths come last in what is met
 module _ (a : Bool) where
   pub met-one : (e : Edge) → met (rule a (e ∷ [])) ≡ (a && meets e)
   unfolding met
@@ -125,6 +148,14 @@ module _ (a : Bool) where
   pub met-two : (e f : Edge) → met (rule a (e ∷ f ∷ [])) ≡ (a && (meets e && meets f))
   unfolding met
   met-two e f = rw (and-true (meets f))
+
+  pub short-one : (vars : ℕ) (e : Edge) → short_of vars (rule a (e ∷ [])) ≡ edge_short vars e
+  unfolding short_of
+  short-one vars e = then-nothing (edge_short vars e)
+
+  pub short-two : (vars : ℕ) (e f : Edge) → short_of vars (rule a (e ∷ f ∷ [])) ≡ then_short (edge_short vars e) (edge_short vars f)
+  unfolding short_of
+  short-two vars e f = rw (then-nothing (edge_short vars f))
 
   -- any number of edges
   pub met-any : (b : Bool) (es : List Edge) → met (rule (a && b) es) ≡ (a && (b && all_meet es))
@@ -168,3 +199,6 @@ replaced-depth d e x = go (leb 1 d) refl
     go : (u : Bool) → leb 1 d ≡ u → ((u && x) && eqb (d - 1 + 1) e) ≡ ((u && x) && eqb d e)
     go true p = let q : d - 1 + 1 ≡ d = omega (arith, leb-true 1 d p) in rw q
     go false p = refl
+
+abbrev pub found : ℕ → Ruling
+found w = record { met = true; short = w }

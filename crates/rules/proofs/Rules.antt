@@ -7,15 +7,15 @@ use native.Mathlib.Omega.{arith}
 use lib.Dec.{eqb, leb}
 use borrow.Author.Tests.{lt-leb, le-leb, eqb-true}
 use Rattle.ground.specs.Chain.{refuse}
-use Rattle.entries.specs.Entries.{Entry, kind_of, class_of, is_int, is_reference, is_nullable, is_of, matches_field}
+use Rattle.entries.specs.Entries.{Entry, kind_of, class_of, is_int, is_reference, is_nullable, is_of, field_entry, matches_field}
 use Rattle.entries.specs.Fits.{may_go, compare, want, want_entered}
 use Rattle.rows.specs.Rows.{Row}
 use Rattle.matching.specs.Matching.{popped, pushed, stored, emptied, wants, wants_at, edge, then_short, edge_short, vars_go, stack_goes}
 use Rattle.matching.proofs.Scans.{then-nothing}
 use Rattle.matching.proofs.Edges.{thrown-edge}
-use Rattle.rules.specs.Rule.{all_meet, met, short_along, unmet, ruling}
+use Rattle.rules.specs.Rule.{rule, all_meet, met, short_along, unmet, ruling}
 use Rattle.rules.specs.Rules.{inc_rule, pop_rule, store_rule, if_rule, uncaught_goes, thrown, made, failure_goes, failure_thrown, new_rule, null_goes, null_thrown, unnulled, enter_rule, owner_goes, get_rule, put_rule, throw_rule, start_rule, arguments_go, object_goes}
-use Rattle.rules.proofs.Judging.{and-true, and_assoc, and-swap, met-one, met-two, met-any, met-more, popped-depth, popped-depths, replaced-depth}
+use Rattle.rules.proofs.Judging.{judged, and-true, and_assoc, and-swap, ruling-one, ruling-any, ruling-more, met-one, met-two, met-any, met-more, popped-depth, popped-depths, replaced-depth}
 
 pub inc-met : (x y : Row) → met (inc_rule x y) ≡ ((leb 1 x.depth && is_int (x.stack 0)) && eqb x.depth y.depth)
 unfolding inc_rule
@@ -32,6 +32,12 @@ store-met v x y = met-one _ _ ∙ popped-depth x.depth y.depth (may_go (x.variab
 pub if-met : (x y z : Row) → met (if_rule x y z) ≡ (is_int (x.stack 0) && (eqb x.depth (y.depth + 1) && eqb x.depth (z.depth + 1)))
 unfolding if_rule
 if-met x y z = met-two _ _ _ ∙ popped-depths x.depth y.depth z.depth (is_int (x.stack 0))
+
+-- a stack never holds 256 entries, since its depth is a byte
+pub start-too-many : (vars args : ℕ) (descriptor : ℕ → ℕ) (c : ℕ) (x y : Row) → x.depth < args + 1
+    → ruling vars (start_rule args descriptor c x y) ≡ unmet
+unfolding start_rule ruling met refuse
+start-too-many vars args descriptor c x y l = rw (lt-leb (args + 1) x.depth l)
 
 module _ (args : ℕ) (descriptor : ℕ → ℕ) (c : ℕ) (x y : Row) where
   pub start-few : (vars : ℕ) → x.depth ≤ args → ruling vars (start_rule args descriptor c x y) ≡ unmet
@@ -71,6 +77,14 @@ pub throw-rule-met : (vars exception h : ℕ) (x z : Row)
 unfolding throw_rule
 throw-rule-met vars exception h x z = rw (← throw-met vars h (x.stack 0) x z) (met-any _ (uncaught_goes vars h (x.stack 0) x) (thrown h (x.stack 0) x z))
 
+pub throw-ruling : (vars exception h : ℕ) (x z : Row)
+    → ruling vars (throw_rule vars exception h x z)
+    ≡ judged ((leb 1 x.depth && is_of exception (x.stack 0) && stack_goes (popped 1 x)) && throw_met vars h (x.stack 0) x z) (throw_short vars h (x.stack 0) x z)
+unfolding throw_rule
+throw-ruling vars exception h x z =
+    rw (and_assoc (leb 1 x.depth && is_of exception (x.stack 0) && stack_goes (popped 1 x)) (uncaught_goes vars h (x.stack 0) x) (all_meet (thrown h (x.stack 0) x z)), throw-met vars h (x.stack 0) x z, throw-short vars h (x.stack 0) x z)
+    at (ruling-any vars (leb 1 x.depth && is_of exception (x.stack 0) && stack_goes (popped 1 x) && uncaught_goes vars h (x.stack 0) x) (thrown h (x.stack 0) x z))
+
 -- ---- a failed new: its throw, of the exception class with (0,0)
 module _ (vars exception h : ℕ) (x z : Row) where
   abbrev pub failure_met : Bool
@@ -90,6 +104,12 @@ module _ (vars exception h : ℕ) (x z : Row) where
   pub new-met : (c : ℕ) (y : Row) → met (new_rule vars exception c h x y z) ≡ (failure_met && eqb (x.depth + 1) y.depth)
   unfolding new_rule
   new-met c y = met-more _ _ _
+
+  pub new-ruling : (c : ℕ) (y : Row)
+      → judged (failure_met && eqb (x.depth + 1) y.depth) (then_short (edge_short vars (edge (pushed (made c) x) (wants y))) failure_short)
+      ≡ ruling vars (new_rule vars exception c h x y z)
+  unfolding new_rule
+  new-ruling c y = sym (ruling-more vars (failure_goes vars exception h x) (edge (pushed (made c) x) (wants y)) (failure_thrown exception h x z))
 
 -- ---- what may be null throws when it is
 no-null : (e : Entry) → is_reference e ≡ true → is_nullable e ≡ false
@@ -124,9 +144,35 @@ module _ (vars exception v h : ℕ) (x y z : Row) where
   unfolding enter_rule null_thrown unnulled
   enter-edges p = rw p
 
+  -- .. and the rulings of both
+  pub enter-reference : is_reference (x.variable v) ≡ true
+      → judged (eqb x.depth y.depth) (edge_short vars (edge x (wants_at v (want_entered (y.variable v)) y))) ≡ ruling vars (enter_rule vars exception v h x y z)
+  unfolding enter_rule null_goes null_thrown unnulled
+  enter-reference p = rw (p, no-null (x.variable v) p) (sym (ruling-one vars true _))
+
+  pub enter-other : is_reference (x.variable v) ≡ false
+      → judged ((is_nullable (x.variable v) && failure_met vars exception h x z) && eqb x.depth y.depth)
+      (then_short (edge_short vars (edge (stored v (made (class_of (x.variable v))) x) (wants_at v (want_entered (y.variable v)) y))) (failure_short vars exception h x z))
+      ≡ ruling vars (enter_rule vars exception v h x y z)
+  unfolding enter_rule null_goes null_thrown unnulled ruling met refuse
+  enter-other p = rw p (go (is_nullable (x.variable v)))
+    where
+      go : (t : Bool)
+          → judged ((t && failure_met vars exception h x z) && eqb x.depth y.depth)
+          (then_short (edge_short vars (edge (stored v (made (class_of (x.variable v))) x) (wants_at v (want_entered (y.variable v)) y))) (failure_short vars exception h x z))
+          ≡ ruling vars
+          (rule (t && cond t (failure_goes vars exception h x) true)
+          (edge (cond t (stored v (made (class_of (x.variable v))) x) x) (wants_at v (want_entered (y.variable v)) y) ∷ cond t (failure_thrown exception h x z) []))
+      go true =
+          sym (ruling-more vars (failure_goes vars exception h x) (edge (stored v (made (class_of (x.variable v))) x) (wants_at v (want_entered (y.variable v)) y)) (failure_thrown exception h x z))
+      go false = refl
+
 module _ (vars exception c d h : ℕ) (x y z : Row) where
   abbrev pub null_met : Entry → Bool
   null_met e = null_goes vars exception h e x && all_meet (null_thrown exception h e x z)
+
+  abbrev pub null_short : Entry → ℕ
+  null_short e = short_along vars (null_thrown exception h e x z)
 
   pub get-met : met (get_rule vars exception c d h x y z) ≡ (((leb 1 x.depth && owner_goes c (x.stack 0)) && null_met (x.stack 0)) && eqb (x.depth - 1 + 1) y.depth)
   unfolding get_rule
@@ -134,9 +180,27 @@ module _ (vars exception c d h : ℕ) (x y z : Row) where
       rw (← and_assoc (leb 1 x.depth && owner_goes c (x.stack 0)) (null_goes vars exception h (x.stack 0) x) (all_meet (null_thrown exception h (x.stack 0) x z)))
       (met-more _ _ _)
 
+  pub get-ruling : judged
+      (((leb 1 x.depth && owner_goes c (x.stack 0)) && null_met (x.stack 0)) && eqb (x.depth - 1 + 1) y.depth)
+      (then_short (edge_short vars (edge (pushed (field_entry d) (popped 1 x)) (wants y))) (null_short (x.stack 0)))
+      ≡ ruling vars (get_rule vars exception c d h x y z)
+  unfolding get_rule
+  get-ruling =
+      rw (← and_assoc (leb 1 x.depth && owner_goes c (x.stack 0)) (null_goes vars exception h (x.stack 0) x) (all_meet (null_thrown exception h (x.stack 0) x z)))
+      (sym (ruling-more vars _ (edge (pushed (field_entry d) (popped 1 x)) (wants y)) (null_thrown exception h (x.stack 0) x z)))
+
   pub put-met : met (put_rule vars exception c d h x y z)
       ≡ (((leb 2 x.depth && (matches_field d (x.stack 0) && may_go (x.stack 0)) && owner_goes c (x.stack 1)) && null_met (x.stack 1)) && eqb (x.depth - 2) y.depth)
   unfolding put_rule
   put-met =
       rw (← and_assoc (leb 2 x.depth && (matches_field d (x.stack 0) && may_go (x.stack 0)) && owner_goes c (x.stack 1)) (null_goes vars exception h (x.stack 1) x) (all_meet (null_thrown exception h (x.stack 1) x z)))
       (met-more _ _ _)
+
+  pub put-ruling : judged
+      (((leb 2 x.depth && (matches_field d (x.stack 0) && may_go (x.stack 0)) && owner_goes c (x.stack 1)) && null_met (x.stack 1)) && eqb (x.depth - 2) y.depth)
+      (then_short (edge_short vars (edge (popped 2 x) (wants y))) (null_short (x.stack 1)))
+      ≡ ruling vars (put_rule vars exception c d h x y z)
+  unfolding put_rule
+  put-ruling =
+      rw (← and_assoc (leb 2 x.depth && (matches_field d (x.stack 0) && may_go (x.stack 0)) && owner_goes c (x.stack 1)) (null_goes vars exception h (x.stack 1) x) (all_meet (null_thrown exception h (x.stack 1) x z)))
+      (sym (ruling-more vars _ (edge (popped 2 x) (wants y)) (null_thrown exception h (x.stack 1) x z)))

@@ -10,10 +10,12 @@ use lib.Arith.{digits_div}
 use borrow.Author.Tests.{eqb-true}
 use Rattle.ground.specs.Bytes.{at, quad}
 use Rattle.ground.specs.Chain.{refuse}
-use Rattle.entries.specs.Entries.{Blank, zeros, entry_of}
+use Rattle.bundle.specs.declared.Class.{Class}
+use Rattle.entries.specs.Entries.{Blank, zeros, entry_of, is_type, is_blank}
 use Rattle.entries.specs.Words.{entry_from}
 use Rattle.entries.proofs.Words.{word_bytes}
-use Rattle.shape.specs.Shape.{aside, entry_aside}
+use Rattle.rows.specs.Words.{variable_word, stack_word, entry_word}
+use Rattle.shape.specs.Shape.{aside, entry_aside, variable_aside, stack_aside}
 use Rattle.shape.specs.Loops.{aside_word}
 
 module _ (n a c d e : ℕ) (la : a < 256) (lc : c < 256) (ld : d < 256) (le : e < 256) where
@@ -49,3 +51,28 @@ module _ (n : ℕ) (r : List ℕ) (bytes : (i : ℕ) → at r i < 256) where
           ≡ cond t (aside n (at r p) (at r (p + 1)) (at r (p + 2)) (at r (p + 3))) Blank
       either true = aside-word n _ _ _ _ (bytes p) (bytes (p + 1)) (bytes (p + 2)) (bytes (p + 3))
       either false = blank n
+
+  -- THEOREM: what is read is the entry of variable i, pair bytes aside
+  variable-aside : (s i : ℕ) → entry_from n (aside_word (variable_word r s i)) ≡ variable_aside n r s i
+  unfolding variable_aside variable_word
+  variable-aside s i = entry-aside _
+
+  -- THEOREM: .. and the stack entry j
+  stack-aside : (k : Class) (s j : ℕ) → entry_from n (aside_word (entry_word k r s j)) ≡ stack_aside n k r s j
+  unfolding stack_aside entry_word stack_word refuse
+  stack-aside k s j = either (ltb j k.limit)
+    where
+      either : (t : Bool) → entry_from n (aside_word (cond t (quad r (s + 4 * k.vars + 1 + 4 * j)) 0)) ≡ cond t (entry_aside n r (s + 4 * k.vars + 1 + 4 * j)) Blank
+      either true = entry-aside _
+      either false = blank n
+
+  -- the code's tests of what it read: w, and w' with its pair bytes aside
+  module _ (w w' : ℕ) {o : Bool} (e : w' ≡ aside_word w) where
+    pub variable-typed : (s i : ℕ) → w ≡ variable_word r s i → o ≡ is_type (entry_from n w') → o ≡ is_type (variable_aside n r s i)
+    variable-typed s i q h = rw (← variable-aside s i, ← q, ← e) h
+
+    pub stack-typed : (k : Class) (s j : ℕ) → w ≡ entry_word k r s j → o ≡ is_type (entry_from n w') → o ≡ is_type (stack_aside n k r s j)
+    stack-typed k s j q h = rw (← stack-aside k s j, ← q, ← e) h
+
+    pub stack-blank : (k : Class) (s j : ℕ) → w ≡ entry_word k r s j → o ≡ is_blank (entry_from n w') → o ≡ is_blank (stack_aside n k r s j)
+    stack-blank k s j q h = rw (← stack-aside k s j, ← q, ← e) h

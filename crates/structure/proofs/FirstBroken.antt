@@ -6,12 +6,14 @@ use mathlib.Core.Bool.{true}
 use Prim.Native.Nat.{ℕ, ◌+◌, ◌-◌, ◌<◌}
 use native.Mathlib.Omega.{arith}
 use Rattle.ground.specs.Lists.{each, In, first_broken}
+use Rattle.ground.proofs.Chain.{then-stop}
 use Rattle.ground.proofs.Lists.{in-append, in_left, in_right, in-each, each_in, in-numbered, numbered-in}
 use Rattle.bundle.specs.Container.{classes, class_at, part_of}
 use Rattle.bundle.specs.Program.{method_of, method_at, program_of}
+use Rattle.verdicts.specs.declared.Verdict.{Verdict}
 use Rattle.verdicts.specs.Verdicts.{verdict, is_bad, pass, Names}
 use Rattle.structure.specs.Places.{Place, whole, trailer, directory, limits, extent, descriptors, instruction, Within, head_places, shape_places, layout_places, table_places, structure_places, holds, drawn}
-use Rattle.structure.specs.Structure.{searched, layout_of, structure_of, StructureJudges}
+use Rattle.structure.specs.Structure.{searched, head_of, layout_of, structure_of, StructureJudges}
 use Rattle.structure.specs.Loops.{and_then, ascending, table_at, table_of}
 use Rattle.structure.proofs.Judges.{judges, search-then, search-last, search-each}
 
@@ -85,6 +87,10 @@ module _ (b : List ℕ) where
   structure-parts =
       search-then (holds b) drawn bad (verdict 0 (classes b) 0) (layout_places b) (each (classes b) (table_places b))
       ∙ ap (and_then (layout_of b)) (search-last (holds b) drawn bad (verdict 0 (classes b) 0) (each (classes b) (table_places b)))
+
+  -- what `head` finds is the first of all
+  pub head_first : {v : Verdict} → v ≡ head_of b → is_bad v ≡ true → v ≡ structure_of b
+  head_first q e = rw structure-parts (then-stop _ _ _ (rw layout-parts (then-stop _ _ _ q e)) e)
 
   pub by-class : (f : ℕ → List Place) → searched b (each (classes b) f) ≡ ascending (classes b) (λ c. searched b (f c))
   by-class f = search-each (holds b) drawn bad (classes b) f

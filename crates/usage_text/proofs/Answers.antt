@@ -3,13 +3,15 @@ use mathlib.Core.Path.{◌≡◌, refl, sym, subst, ◌∙◌}
 use mathlib.Core.List.{List}
 use Rattle.std.specs.Prelude.{Option, Some, None}
 use mathlib.Core.Bool.{Bool, true, false, cond, ◌&&◌}
-use Prim.Native.Nat.{ℕ, zero, suc, ◌+◌, ◌<◌, ◌≤◌}
+use Prim.Native.Nat.{ℕ, zero, suc, ◌+◌, ◌-◌, ◌^◌, ◌<◌, ◌≤◌}
 use native.Mathlib.Nat.{lt_of_not-le}
 use native.Mathlib.Omega.{arith}
-use lib.Dec.{eqb, leb}
+use lib.Dec.{eqb, leb, ltb}
 use lib.ListN.{length}
-use lib.IntN.{nat_abs}
+use lib.IntN.{pos, negsuc, nat_abs, sub_ℕ, ◌-ℤ◌}
 use borrow.Author.Tests.{le-leb, lt-leb, leb-true, leb-false, eq-eqb, ne_eqb, eqb-true}
+use mir.Syntax.{w32}
+use mir.Val.{SFits}
 use Rattle.std.proofs.lemmas.Option.{none-some}
 use Rattle.ground.specs.Chain.{refuse}
 use Rattle.usages.specs.Usage.{Usage}
@@ -22,6 +24,18 @@ use Rattle.usage_text.proofs.Weights.{dip-is, end_is, end-far, end-near}
 use Rattle.usage_text.proofs.Bounds.{choice-room}
 use Rattle.usage_text.proofs.Turns.{Given, taken_none, taken-some}
 use Rattle.usage_text.proofs.Grammar.{whole-deeper}
+
+-- ---- the end as a machine's integer
+apart_fits : (r d : ℕ) → r < 2 ^ 16 → d < 2 ^ 16 → SFits w32 (sub_ℕ r (suc d))
+apart_fits r d h k = go (ltb r (suc d)) refl
+  where
+    go : (t : Bool) → ltb r (suc d) ≡ t → SFits w32 (cond t (negsuc (suc d - suc r)) (pos (r - suc d)))
+    go true e = record { sfits = omega arith }
+    go false e = record { sfits = omega arith }
+
+pub end_fits : (r d : ℕ) → r < 2 ^ 16 → d < 2 ^ 16 → SFits w32 (pos r -ℤ pos d)
+end_fits r zero h k = record { sfits = omega arith }
+end_fits r (suc d) h k = apart_fits r d h (omega arith)
 
 -- ---- the weight's tests
 module _ (w : Weight) where
