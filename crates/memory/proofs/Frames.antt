@@ -19,7 +19,7 @@ use Rattle.threads.specs.Threads.{from_top, top_of, with_stack, with_vars, with_
 use Rattle.memory.specs.Tab.{tab}
 use Rattle.memory.specs.Words.{slot_of, inc_word}
 use Rattle.memory.specs.declared.Frame.{Frame}
-use Rattle.memory.specs.Frames.{Sixteen, slot_in, thread_in, top_place, top_in, went_in, topped_in, pushed_in, popped_in, dropped_in, stored_in, branched_in, cleared_in, emptied_in, ended_in, caught_in, argument_in, begun_in}
+use Rattle.memory.specs.Frames.{Sixteen, slot_in, depth_in, thread_in, top_place, top_in, went_in, topped_in, pushed_in, popped_in, dropped_in, stored_in, branched_in, cleared_in, emptied_in, ended_in, caught_in, argument_in, begun_in}
 use Rattle.memory.proofs.Tab.{tab-length, tab-at, is-tab}
 use Rattle.memory.proofs.Meaning.{word-zero, int-low, inc-word, jumps-word}
 use Rattle.memory.proofs.Writes.{slots-set, entry_read, top_read}
@@ -82,9 +82,12 @@ pub record Is (p : Frame) (u : Thread) : Type 0 where
   pub sized : Sixteen p
   pub thread : thread_in p ≡ u
 
-pub went-is : (p : Frame) (u : Thread) (to : ℕ) → Is p u → Is (went_in p to) (with_at u to)
-went-is p u to h =
-    record { sized = record { vars_16 = h.sized.vars_16; stack_16 = h.sized.stack_16 }; thread = ap (λ (t : Thread). with_at t to) h.thread }
+pub went-is : (p : Frame) (u : Thread) (to : ℕ) → Is p u → to < 65536 → Is (went_in p to) (with_at u to)
+went-is p u to h l =
+    record {
+      sized = record { vars_16 = h.sized.vars_16; stack_16 = h.sized.stack_16 };
+      thread = rw (mod-eq_of_lt l) (ap (λ (t : Thread). with_at t to) h.thread);
+    }
 
 module _ (p : Frame) (z : Sixteen p) where
   abbrev T : Thread
@@ -102,38 +105,42 @@ module _ (p : Frame) (z : Sixteen p) where
         thread = rw (mod-eq_of_lt l) (ap (with_vars T) (slots-set 16 p.vars v w z.vars_16 l));
       }
 
-  pub pushed-is : (w : ℕ) → p.depth < 16 → Is (pushed_in p w) (pushed (thread_in p) (slot_of w))
+  pub pushed-is : (w : ℕ) → depth_in p < 16 → Is (pushed_in p w) (pushed (thread_in p) (slot_of w))
   pushed-is w l =
+      let e : (p.depth % 16 + 1) % 256 ≡ p.depth % 16 + 1 = omega arith in
       record {
         sized = record { vars_16 = z.vars_16; stack_16 = length-set p.stack (p.depth % 16) w ∙ z.stack_16 };
-        thread = ap (λ (s : List Slot). with_stack T s (p.depth % 16 + 1)) (placed (p.depth % 16) w (omega arith))
+        thread = (rw e)
+            ∙ ap (λ (s : List Slot). with_stack T s (p.depth % 16 + 1)) (placed (p.depth % 16) w (omega arith))
             ∙ pushed_at T (p.depth % 16) (slot_of w) (omega arith) (omega arith);
       }
 
   -- .. where its depth is at most sixteen places
-  module _ (m : p.depth ≤ 16) where
-    pub topped-is : (w : ℕ) → 1 ≤ p.depth → Is (topped_in p w) (topped (thread_in p) (slot_of w))
+  module _ (m : depth_in p ≤ 16) where
+    pub topped-is : (w : ℕ) → 1 ≤ depth_in p → Is (topped_in p w) (topped (thread_in p) (slot_of w))
     topped-is w l =
         record {
           sized = record { vars_16 = z.vars_16; stack_16 = length-set p.stack (top_place p) w ∙ z.stack_16 };
           thread = ap (λ (s : List Slot). with_stack T s T.depth) (placed (top_place p) w (omega arith)) ∙ topped-at T (top_place p) (slot_of w) (omega arith);
         }
 
-    pub popped-is : 1 ≤ p.depth → Is (popped_in p) (popped 1 (thread_in p))
+    pub popped-is : 1 ≤ depth_in p → Is (popped_in p) (popped 1 (thread_in p))
     popped-is l =
+        let e : top_place p % 256 ≡ top_place p = omega arith in
         record {
           sized = record { vars_16 = z.vars_16; stack_16 = length-set p.stack (top_place p) 0 ∙ z.stack_16 };
-          thread = ap (λ (s : List Slot). with_stack T s (top_place p)) (placed (top_place p) 0 (omega arith) ∙ ap (set T.stack (top_place p)) word-zero)
+          thread = (rw e)
+              ∙ ap (λ (s : List Slot). with_stack T s (top_place p)) (placed (top_place p) 0 (omega arith) ∙ ap (set T.stack (top_place p)) word-zero)
               ∙ popped-one T (top_place p) (omega arith);
         }
 
 -- n entries gone
-pub dropped-is : (p : Frame) → Sixteen p → p.depth ≤ 16 → (n : ℕ) → n ≤ p.depth → Is (dropped_in n p) (popped n (thread_in p))
+pub dropped-is : (p : Frame) → Sixteen p → depth_in p ≤ 16 → (n : ℕ) → n ≤ depth_in p → Is (dropped_in n p) (popped n (thread_in p))
 unfolding dropped_in
 dropped-is p z m zero l = record { sized = z; thread = popped-none (thread_in p) }
 dropped-is p z m (suc n) l =
     let h = dropped-is p z m n (omega arith) in
-    let d : (dropped_in n p).depth ≡ p.depth - n = ap (λ (t : Thread). t.depth) h.thread ∙ popped-depth (thread_in p) n in
+    let d : depth_in (dropped_in n p) ≡ depth_in p - n = ap (λ (t : Thread). t.depth) h.thread ∙ popped-depth (thread_in p) n in
     let k = popped-is (dropped_in n p) h.sized (omega arith) (omega arith) in
     record {
       sized = k.sized;
@@ -154,40 +161,40 @@ cleared-is p z (suc n) l =
     }
 
 -- the stack emptied
-emptied-is : (p : Frame) → Sixteen p → p.depth ≤ 16 → Is (emptied_in p) (popped p.depth (thread_in p))
+emptied-is : (p : Frame) → Sixteen p → depth_in p ≤ 16 → Is (emptied_in p) (popped (depth_in p) (thread_in p))
 emptied-is p z m =
-    let e : p.depth % 32 ≡ p.depth = omega arith in
-    rw e (dropped-is p z m p.depth (omega arith))
+    let e : p.depth % 32 ≡ depth_in p = omega arith in
+    rw e (dropped-is p z m (depth_in p) (omega arith))
 
 -- a thread at rest, with the values it has
 abbrev rested : Thread → Thread
 rested t = record { live = false; class = 0; at = addr 0; depth = 0; vars = t.vars; stack = t.stack }
 
-module _ (p : Frame) (z : Sixteen p) (m : p.depth ≤ 16) where
-  pub caught-is : (w : ℕ) → Is (caught_in p w) (pushed (popped p.depth (thread_in p)) (slot_of w))
+module _ (p : Frame) (z : Sixteen p) (m : depth_in p ≤ 16) where
+  pub caught-is : (w : ℕ) → Is (caught_in p w) (pushed (popped (depth_in p) (thread_in p)) (slot_of w))
   caught-is w =
       let h = emptied-is p z m in
-      let d : (emptied_in p).depth ≡ p.depth - p.depth = ap (λ (t : Thread). t.depth) h.thread ∙ popped-depth (thread_in p) p.depth in
+      let d : depth_in (emptied_in p) ≡ depth_in p - depth_in p = ap (λ (t : Thread). t.depth) h.thread ∙ popped-depth (thread_in p) (depth_in p) in
       let k = pushed-is (emptied_in p) h.sized w (omega arith) in
       record { sized = k.sized; thread = k.thread ∙ ap (λ (t : Thread). pushed t (slot_of w)) h.thread }
 
   -- a thread that ends is emptied, and its head becomes 0
-  ended-parts : (vars : ℕ) → rested (popped p.depth (with_vars (thread_in p) (fill_from 0 vars zero_slot (thread_in p).vars))) ≡ ended vars (thread_in p)
+  ended-parts : (vars : ℕ) → rested (popped (depth_in p) (with_vars (thread_in p) (fill_from 0 vars zero_slot (thread_in p).vars))) ≡ ended vars (thread_in p)
   unfolding ended popped
-  ended-parts vars = let e : p.depth - p.depth ≡ 0 = omega arith in rw e
+  ended-parts vars = let e : depth_in p - depth_in p ≡ 0 = omega arith in rw e
 
   pub ended_is : (vars : ℕ) → vars ≤ 16 → Is (ended_in p vars) (ended vars (thread_in p))
   ended_is vars l =
       let c = cleared-is p z vars l in
-      let d : (cleared_in vars p).depth ≡ p.depth = ap (λ (t : Thread). t.depth) c.thread in
+      let d : depth_in (cleared_in vars p) ≡ depth_in p = ap (λ (t : Thread). t.depth) c.thread in
       let h = emptied-is (cleared_in vars p) c.sized (omega arith) in
       record {
         sized = record { vars_16 = h.sized.vars_16; stack_16 = h.sized.stack_16 };
-        thread = ap rested (h.thread ∙ (rw d) ∙ ap (popped p.depth) c.thread) ∙ ended-parts vars;
+        thread = ap rested (h.thread ∙ (rw d) ∙ ap (popped (depth_in p)) c.thread) ∙ ended-parts vars;
       }
 
   -- ---- by kind
-  pub inc_is : is_int (top_of (thread_in p)) ≡ true → 1 ≤ p.depth → Is (topped_in p (inc_word (top_in p))) (topped (thread_in p) (inc_slot (top_of (thread_in p))))
+  pub inc_is : is_int (top_of (thread_in p)) ≡ true → 1 ≤ depth_in p → Is (topped_in p (inc_word (top_in p))) (topped (thread_in p) (inc_slot (top_of (thread_in p))))
   inc_is e l =
       let k = topped-is p z m (inc_word (top_in p)) l in
       let r = top_read p l m in
@@ -197,18 +204,19 @@ module _ (p : Frame) (z : Sixteen p) (m : p.depth ≤ 16) where
             ∙ ap (topped (thread_in p)) (inc-word (top_in p) (int-low (top_in p) (subst (λ (x : Slot). is_int x ≡ true) r e)) ∙ ap inc_slot (sym r));
       }
 
-  pub branched-is : is_int (top_of (thread_in p)) ≡ true → 1 ≤ p.depth → (a to : ℕ) → Is (branched_in p a to) (with_at (popped 1 (thread_in p)) (cond (jumps (top_of (thread_in p))) a to))
-  branched-is e l a to =
+  pub branched-is : is_int (top_of (thread_in p)) ≡ true → 1 ≤ depth_in p → (a to : ℕ) → a < 65536 → to < 65536
+      → Is (branched_in p a to) (with_at (popped 1 (thread_in p)) (cond (jumps (top_of (thread_in p))) a to))
+  branched-is e l a to la lt =
       let r = top_read p l m in
       let j : jumps (top_of (thread_in p)) ≡ not (eqb (top_in p) 0) = ap jumps r ∙ jumps-word (top_in p) (int-low (top_in p) (subst (λ (x : Slot). is_int x ≡ true) r e)) in
       rw j (go (eqb (top_in p) 0))
     where
       go : (b : Bool) → Is (went_in (popped_in p) (cond b to a)) (with_at (popped 1 (thread_in p)) (cond (not b) a to))
-      go true = went-is (popped_in p) (popped 1 (thread_in p)) to (popped-is p z m l)
-      go false = went-is (popped_in p) (popped 1 (thread_in p)) a (popped-is p z m l)
+      go true = went-is (popped_in p) (popped 1 (thread_in p)) to (popped-is p z m l) lt
+      go false = went-is (popped_in p) (popped 1 (thread_in p)) a (popped-is p z m l) la
 
 -- ---- a thread that begins: q is its starter's frame
-module _ (p q : Frame) (z : Sixteen p) (m : q.depth ≤ 16) (n c : ℕ) (l : n ≤ q.depth) where
+module _ (p q : Frame) (z : Sixteen p) (m : depth_in q ≤ 16) (n c : ℕ) (l : n ≤ depth_in q) (lc : c < 256) where
   argument_is : (v : ℕ) → v < 16 → slot_of (argument_in q n v) ≡ get_or (set_below n (from_top (thread_in q)) (replicate 16 zero_slot)) v zero_slot
   argument_is v k = go (dec_lt v n)
     where
@@ -228,4 +236,4 @@ module _ (p q : Frame) (z : Sixteen p) (m : q.depth ≤ 16) (n c : ℕ) (l : n �
 
   pub begun-is : Is (begun_in p (tab 16 (argument_in q n)) c) (started (thread_in p) (thread_in q) c n)
   unfolding started
-  begun-is = record { sized = record { vars_16 = tab-length 16 (argument_in q n); stack_16 = z.stack_16 }; thread = rw vars-is }
+  begun-is = record { sized = record { vars_16 = tab-length 16 (argument_in q n); stack_16 = z.stack_16 }; thread = rw (vars-is, mod-eq_of_lt lc) }

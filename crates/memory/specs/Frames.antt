@@ -1,6 +1,7 @@
--- Each move of document 01 as what it writes into a frame. A frame has sixteen variables and sixteen stack places, and a move takes every place modulo 16.
+-- One thread as a frame of 36 words: sixteen variables, sixteen stack places from the bottom, and its class, address, depth and whether it is live; and each move
+-- of document 01 as what it writes. A move takes every place modulo 16.
 -- Nothing here has to be believed: the laws of proofs/Frames say of each move that it is the change of `threads`, where the thread has what the move takes.
-use Rattle.std.specs.Prelude.{◌≡◌, List, true, false, cond, ℕ, zero, suc, ◌+◌, ◌-◌, ◌%◌, ltb, eqb, length, set, replicate}
+use Rattle.std.specs.Prelude.{◌≡◌, List, Bool, cond, not, ℕ, zero, suc, ◌+◌, ◌-◌, ◌%◌, ltb, eqb, length, set, replicate}
 use Rattle.ground.specs.Bytes.{at}
 use Rattle.instructions.specs.Table.{addr}
 use Rattle.values.specs.declared.Slot.{Slot}
@@ -16,20 +17,32 @@ pub record Sixteen (p : Frame) : Type 0 where
 
 -- no thread's frame: not live, and all else 0
 abbrev pub empty_frame : Frame
-empty_frame = record { vars = replicate 16 0; stack = replicate 16 0; class = 0; at = 0; depth = 0; live = false }
+empty_frame = record { vars = replicate 16 0; stack = replicate 16 0; class = 0; at = 0; depth = 0; live = 0 }
 
 -- the value at place v of these words
 abbrev pub slot_in : List ℕ → ℕ → Slot
 slot_in words v = slot_of (at words v)
 
+abbrev pub live_in : Frame → Bool
+live_in p = not (eqb p.live 0)
+
+abbrev pub class_in : Frame → ℕ
+class_in p = p.class % 256
+
+abbrev pub address_in : Frame → ℕ
+address_in p = p.at % 65536
+
+abbrev pub depth_in : Frame → ℕ
+depth_in p = p.depth % 256
+
 -- the thread that the frame is
 abbrev pub thread_in : Frame → Thread
 thread_in p =
     record {
-      live = p.live;
-      class = p.class;
-      at = addr p.at;
-      depth = p.depth;
+      live = live_in p;
+      class = class_in p;
+      at = addr (address_in p);
+      depth = depth_in p;
       vars = tab 16 (slot_in p.vars);
       stack = tab 16 (slot_in p.stack);
     }
@@ -96,7 +109,7 @@ emptied_in p = dropped_in (p.depth % 32) p
 
 -- at rest, with the words it has
 abbrev pub rested_in : Frame → Frame
-rested_in p = record { vars = p.vars; stack = p.stack; class = 0; at = 0; depth = 0; live = false }
+rested_in p = record { vars = p.vars; stack = p.stack; class = 0; at = 0; depth = 0; live = 0 }
 
 -- an ended thread, of which so many variables were in use
 abbrev pub ended_in : Frame → ℕ → Frame
@@ -116,4 +129,4 @@ argument_in p n v = cond (ltb v n) (at p.stack ((p.depth % 16 + 31 - v) % 16)) 0
 
 -- a thread at address 1 of class c with these variables; its stack places are as they were
 abbrev pub begun_in : Frame → List ℕ → ℕ → Frame
-begun_in p vars c = record { vars = vars; stack = p.stack; class = c; at = 1; depth = 0; live = true }
+begun_in p vars c = record { vars = vars; stack = p.stack; class = c; at = 1; depth = 0; live = 1 }

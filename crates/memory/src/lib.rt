@@ -1,25 +1,26 @@
-// One thread as a frame of words, which its moves change in place. A move takes each place modulo 16 and tests nothing, and means what document 01 says where the
-// thread has what the move takes.
+// One thread as a frame of 36 words, which its moves change in place. A move takes each place modulo 16 and tests nothing, and means what document 01 says where
+// the thread has what the move takes.
 #![tactic(auto)]
 
 pub mod starts;
 pub mod words;
 
 ghost use Rattle.std.specs.Prelude.{◌≡◌, eqb};
-ghost use Rattle.memory.specs.Frames.{empty_frame, top_place, top_in, under_in, var_in, went_in, topped_in, pushed_in, popped_in, dropped_in, stored_in, cleared_in, ended_in, thrown_in, branched_in};
+ghost use Rattle.memory.specs.Frames.{empty_frame, live_in, class_in, address_in, top_place, top_in, under_in, var_in, went_in, topped_in, pushed_in, popped_in, dropped_in, stored_in, cleared_in, ended_in, thrown_in, branched_in};
 ghost use Rattle.memory.specs.Words.{inc_word};
 
 use instructions::{Addr, Var};
 
-// The words of its variables and of its stack places, from the bottom.
+// The words of its variables and of its stack places, from the bottom. Any words are a frame: class and depth are read modulo 256, the address modulo 65536, and
+// `live` is not 0 where the thread lives.
 #[derive(Clone, Copy)]
 pub struct Frame {
     pub vars: [u64; 16],
     pub stack: [u64; 16],
-    pub class: u8,
-    pub at: u16,
-    pub depth: u8,
-    pub live: bool,
+    pub class: u64,
+    pub at: u64,
+    pub depth: u64,
+    pub live: u64,
 }
 
 impl Frame {
@@ -33,12 +34,30 @@ impl Frame {
             class: 0,
             at: 0,
             depth: 0,
-            live: false,
+            live: 0,
         }
     }
 
+    pub fn live(&self) -> bool
+        ensures { result ≡ live_in self.now }
+    {
+        self.live != 0
+    }
+
+    pub fn class(&self) -> u8
+        ensures { result ≡ class_in self.now }
+    {
+        (self.class % 256) as u8
+    }
+
+    pub fn address(&self) -> u16
+        ensures { result ≡ address_in self.now }
+    {
+        (self.at % 65536) as u16
+    }
+
     // The place of the top.
-    fn top_place(&self) -> u8
+    fn top_place(&self) -> u64
         ensures { result ≡ top_place self.now }
     {
         (self.depth % 16 + 15) % 16
@@ -66,7 +85,7 @@ impl Frame {
     pub fn go(&mut self, to: u16)
         ensures { self.new ≡ went_in self.old to }
     {
-        self.at = to;
+        self.at = to as u64;
     }
 
     // The top changed in place, and on to an address.
@@ -75,7 +94,7 @@ impl Frame {
     {
         let k = self.top_place();
         self.stack[k as usize] = w;
-        self.at = to;
+        self.at = to as u64;
     }
 
     // inc wraps.
@@ -92,7 +111,7 @@ impl Frame {
         let d = self.depth % 16;
         self.stack[d as usize] = w;
         self.depth = d + 1;
-        self.at = to;
+        self.at = to as u64;
     }
 
     // The top gone.
@@ -108,7 +127,7 @@ impl Frame {
         ensures { self.new ≡ went_in (popped_in self.old) to }
     {
         self.pop_one();
-        self.at = to;
+        self.at = to as u64;
     }
 
     fn drop_all(&mut self, n: u8)
@@ -124,7 +143,7 @@ impl Frame {
         ensures { self.new ≡ went_in (dropped_in n self.old) to }
     {
         self.drop_all(n);
-        self.at = to;
+        self.at = to as u64;
     }
 
     pub fn load(&mut self, v: Var, to: u16)
@@ -166,11 +185,11 @@ impl Frame {
         ensures { self.new ≡ ended_in self.old vars }
     {
         self.clear(vars);
-        self.drop_all(self.depth % 32);
+        self.drop_all((self.depth % 32) as u8);
         self.class = 0;
         self.at = 0;
         self.depth = 0;
-        self.live = false;
+        self.live = 0;
     }
 
     // w is thrown, and whether the thread ends of it: with a handler it finds w alone on its stack, and with none it ends.
@@ -181,7 +200,7 @@ impl Frame {
             self.end(vars);
             return true;
         }
-        self.drop_all(self.depth % 32);
+        self.drop_all((self.depth % 32) as u8);
         self.push(w, h.0);
         false
     }

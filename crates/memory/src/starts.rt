@@ -33,9 +33,9 @@ impl Frame {
         ensures { self.new ≡ begun_in self.old vars c }
     {
         self.vars = vars;
-        self.class = c;
+        self.class = c as u64;
         self.at = 1;
         self.depth = 0;
-        self.live = true;
+        self.live = 1;
     }
 }

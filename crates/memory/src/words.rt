@@ -47,10 +47,10 @@ impl Frame {
         ensures { result ≡ thread_in self.now }
     {
         Thread {
-            live: self.live,
-            class: self.class,
-            at: Addr(self.at),
-            depth: self.depth,
+            live: self.live(),
+            class: self.class(),
+            at: Addr(self.address()),
+            depth: (self.depth % 256) as u8,
             vars: slots(&self.vars),
             stack: slots(&self.stack),
         }

@@ -29,7 +29,7 @@ use Rattle.turns.specs.Faults.{lock_of}
 use Rattle.turns.specs.Waits.{wait_of}
 use Rattle.turns.specs.Moves.{counted, throw_move, fail_move, move_of}
 use Rattle.memory.specs.Words.{slot_of, object_in}
-use Rattle.memory.specs.Frames.{thread_in, var_in, went_in, thrown_in}
+use Rattle.memory.specs.Frames.{address_in, thread_in, var_in, went_in, thrown_in}
 use Rattle.memory.proofs.Meaning.{word-object, ref-object, null-high}
 use Rattle.memory.proofs.Writes.{var-read}
 use Rattle.memory.proofs.Frames.{went-is}
@@ -40,7 +40,7 @@ use Rattle.runner.specs.Locks.{held_by_other, counted_in, entered_in, left_in}
 use Rattle.runner.specs.Poised.{Poised, Turned}
 use Rattle.runner.proofs.Stores.{threads-set, sized_set}
 use Rattle.runner.proofs.Others.{held-by-other}
-use Rattle.runner.proofs.Known.{test-holds, test-rest, F, M, X, few-vars, frame_16, placed-here}
+use Rattle.runner.proofs.Known.{test-holds, test-rest, F, M, X, few-vars, next_fits, frame_16, placed-here}
 use Rattle.runner.proofs.Steps.{quiet, listed, goes, waits, threw}
 
 -- the thread, and the word in its variable v
@@ -87,11 +87,11 @@ module _ (b : List ℕ) (table : List Row) (m : Memory) (i : ℕ) (z : Poised b 
     -- the count becomes n
     counted-turned : (x : Instruction) → X b table m i z ≡ x → wait_of (state_from m) i (Here m i) x ≡ 0 → (n : ℕ)
         → move_of (program_of b) (state_from m) i (Here m i) (M b table m i z) fails x ≡ counted (state_from m) i (Here m i) (object_in (Word m i v)) n
-        → Turned b m (counted_in m i (object_in (Word m i v)) n ((F b table m i z).at + 1)) 0 i fails
+        → Turned b m (counted_in m i (object_in (Word m i v)) n (address_in (F b table m i z) + 1)) 0 i fails
     counted-turned x q w n e =
-        let h = went-is (F b table m i z) (Here m i) ((F b table m i z).at + 1) (record { sized = frame_16 b table m i z; thread = refl }) in
+        let h = went-is (F b table m i z) (Here m i) (address_in (F b table m i z) + 1) (record { sized = frame_16 b table m i z; thread = refl }) (next_fits b table m i z) in
         goes b table m i z fails x q w _ 0
-        (sized_set m.frames i (went_in (F b table m i z) ((F b table m i z).at + 1)) z.running.sized.frames_8 z.thread_8 m.fields z.running.sized h.sized)
+        (sized_set m.frames i (went_in (F b table m i z) (address_in (F b table m i z) + 1)) z.running.sized.frames_8 z.thread_8 m.fields z.running.sized h.sized)
         (e
         ∙ ap (λ (ts : List Thread). record {
           answer = 0;
@@ -104,7 +104,7 @@ module _ (b : List ℕ) (table : List Row) (m : Memory) (i : ℕ) (z : Poised b 
             held = set m.held i (marked (at m.held i) (object_in (Word m i v)) n);
           };
         })
-        (sym (threads-set m.frames i (went_in (F b table m i z) ((F b table m i z).at + 1)) z.running.sized.frames_8 z.thread_8 _ h.thread)))
+        (sym (threads-set m.frames i (went_in (F b table m i z) (address_in (F b table m i z) + 1)) z.running.sized.frames_8 z.thread_8 _ h.thread)))
 
 -- ---- monitorenter
 module _ (b : List ℕ) (table : List Row) (m : Memory) (i : ℕ) (z : Poised b table m i) (fails : Bool) (v : Var) (h : Addr) (q : X b table m i z ≡ Enter v h) where
@@ -136,7 +136,7 @@ module _ (b : List ℕ) (table : List Row) (m : Memory) (i : ℕ) (z : Poised b 
   enter-known = (z.thread_8, λ e. enter-bounds (not_null e))
 
   pub enter-turned : (r : ℕ) (m' : Memory)
-      → acted r m' ≡ entered_in m i (M b table m i z).vars v.0 h.0 ((F b table m i z).at + 1) → Turned b m m' r i fails
+      → acted r m' ≡ entered_in m i (M b table m i z).vars v.0 h.0 (address_in (F b table m i z) + 1) → Turned b m m' r i fails
   unfolding entered_in refuse
   enter-turned r m' e =
       subst Q (sym e)
@@ -173,7 +173,7 @@ module _ (b : List ℕ) (table : List Row) (m : Memory) (i : ℕ) (z : Poised b 
       other f g = waits b table m i z fails (Enter v h) q 3 (wait-is f false (free-is f true g)) (omega arith)
 
       free : leb 4294967552 (Word m i v) ≡ false → held_by_other m.held i (object_in (Word m i v)) ≡ false
-          → Q (acted 0 (counted_in m i (object_in (Word m i v)) (at m.counts (i * 32 + object_in (Word m i v)) + 1) ((F b table m i z).at + 1)))
+          → Q (acted 0 (counted_in m i (object_in (Word m i v)) (at m.counts (i * 32 + object_in (Word m i v)) + 1) (address_in (F b table m i z) + 1)))
       free f g =
           let r = enter-lock (not_null f) in
           counted-turned b table m i z fails v enter-var r (Enter v h) q (wait-is f true (free-is f false g)) (at m.counts (i * 32 + object_in (Word m i v)) + 1)
@@ -195,7 +195,7 @@ module _ (b : List ℕ) (table : List Row) (m : Memory) (i : ℕ) (z : Poised b 
   pub exit-known : (i < 8) × (object_in (var_in (F b table m i z) v.0) < 32) × (1 ≤ at m.counts (i * 32 + object_in (var_in (F b table m i z) v.0)))
   exit-known = (z.thread_8, object-32 b table m i z fails v exit-var exit-lock, let k = holds in let e = object-is b table m i z fails v exit-var exit-lock in rw e (omega (arith, k)))
 
-  pub exit-turned : (m' : Memory) → m' ≡ left_in m i v.0 ((F b table m i z).at + 1) → Turned b m m' 0 i fails
+  pub exit-turned : (m' : Memory) → m' ≡ left_in m i v.0 (address_in (F b table m i z) + 1) → Turned b m m' 0 i fails
   unfolding left_in
   exit-turned m' e =
       subst (λ (x : Memory). Turned b m x 0 i fails) (sym e)

@@ -39,7 +39,7 @@ use Rattle.soundness.proofs.Invariant.{placed, vars_16, limit_16, depth_limit, s
 use Rattle.soundness.proofs.Verified.{accepted as judged}
 use Rattle.soundness.proofs.Steps.{no_fault}
 use Rattle.memory.specs.declared.Frame.{Frame}
-use Rattle.memory.specs.Frames.{Sixteen, thread_in}
+use Rattle.memory.specs.Frames.{Sixteen, live_in, class_in, address_in, depth_in, thread_in}
 use Rattle.memory.proofs.Tab.{tab-at}
 use Rattle.runner.specs.declared.table.Row.{Row}
 use Rattle.runner.specs.Table.{row_of}
@@ -80,7 +80,7 @@ module _ (b : List ℕ) (table : List Row) (m : Memory) (u : Running b table m) 
   row_is c d l = rw u.tabled (tab-at 8 (row_of b) c d l)
 
   -- a thread that isn't live rests
-  pub rests : (i : ℕ) → i < 8 → (fails : Bool) → (frame_of m.frames i).live ≡ false → Turned b m m 5 i fails
+  pub rests : (i : ℕ) → i < 8 → (fails : Bool) → live_in (frame_of m.frames i) ≡ false → Turned b m m 5 i fails
   unfolding step_of
   rests i l fails e =
       record { sized = u.sized; step = sym (went_on_lem _ _ can-read ∙ went_on_lem _ _ belongs-here ∙ stopped _ _ sleeping) }
@@ -102,10 +102,10 @@ module _ (b : List ℕ) (table : List Row) (m : Memory) (i : ℕ) (z : Poised b 
   T = thread_in (frame_of m.frames i)
 
   abbrev pub M : Method
-  M = (program_of b).method ((frame_of m.frames i).class)
+  M = (program_of b).method (class_in (frame_of m.frames i))
 
   abbrev pub X : Instruction
-  X = ((program_of b).method ((frame_of m.frames i).class)).instruction ((frame_of m.frames i).at)
+  X = ((program_of b).method (class_in (frame_of m.frames i))).instruction (address_in (frame_of m.frames i))
 
   abbrev A : Accepted (typed_of b)
   A = accepts b table m z.running
@@ -135,10 +135,10 @@ module _ (b : List ℕ) (table : List Row) (m : Memory) (i : ℕ) (z : Poised b 
       ∙ ap (λ (t : Thread). run_of P S i t fails) here-is
       ∙ none-drawn _ S _ (no-fault-here fails)
 
-  known-class : F.class < P.classes
+  known-class : class_in F < P.classes
   known-class = alive.address.class_known
 
-  pub class_8 : F.class < 8
+  pub class_8 : class_in F < 8
   class_8 = omega (arith, known-class, A.formed.few_classes)
 
   pub formed : WellFormed P
@@ -150,17 +150,20 @@ module _ (b : List ℕ) (table : List Row) (m : Memory) (i : ℕ) (z : Poised b 
   pub few-places : M.limit ≤ 16
   few-places = limit_16 (typed_of b) A m.objects (class_of S) (count_of m.counts i) T alive
 
-  pub depth-16 : F.depth ≤ 16
+  pub depth-16 : depth_in F ≤ 16
   depth-16 = omega (arith, few-places, depth_limit (typed_of b) A m.objects (class_of S) (count_of m.counts i) T alive)
 
   pub short-code : M.code ≤ 256
-  short-code = A.formed.code_256 (F.class) known-class
+  short-code = A.formed.code_256 (class_in F) known-class
 
-  pub address_first : 1 ≤ F.at
+  pub address_first : 1 ≤ address_in F
   address_first = alive.address.first
 
-  pub address-256 : F.at ≤ 256
+  pub address-256 : address_in F ≤ 256
   address-256 = omega (arith, alive.address.last, short-code)
+
+  pub next_fits : address_in F + 1 < 65536
+  next_fits = omega (arith, address-256)
 
   pub frame_16 : Sixteen F
   frame_16 = z.running.sized.frame_16 i z.thread_8
@@ -168,35 +171,35 @@ module _ (b : List ℕ) (table : List Row) (m : Memory) (i : ℕ) (z : Poised b 
   pub placed-here : Placed P m.objects T
   placed-here = placed (typed_of b) A m.objects (class_of S) (count_of m.counts i) T alive
 
-  pub fits : InstructionFits P.classes (λ d. (P.method d).fields) M.vars M.code (F.at) X
-  fits = A.formed.table (F.class) (F.at) known-class alive.address.first alive.address.last
+  pub fits : InstructionFits P.classes (λ d. (P.method d).fields) M.vars M.code (address_in F) X
+  fits = A.formed.table (class_in F) (address_in F) known-class alive.address.first alive.address.last
 
   -- ---- what the table says of the thread's class, and of a class that is started
-  pub vars-are : (d : Row) → (get_or table F.class d).vars ≡ M.vars
+  pub vars-are : (d : Row) → (get_or table (class_in F) d).vars ≡ M.vars
   unfolding program_of method_at method_of
-  vars-are d = ap (λ (r : Row). r.vars) (row_is b table m z.running F.class d class_8)
+  vars-are d = ap (λ (r : Row). r.vars) (row_is b table m z.running (class_in F) d class_8)
 
   pub args_are : (c : ℕ) (d : Row) → c < P.classes → (get_or table c d).args ≡ (P.method c).args
   unfolding program_of method_at method_of
   args_are c d l = ap (λ (r : Row). r.args) (row_is b table m z.running c d (omega (arith, A.formed.few_classes)))
 
-  code-starts : (d : Row) → (get_or table F.class d).code ≡ (class_at b F.class).offset + descriptor_count (class_at b F.class)
-  code-starts d = ap (λ (r : Row). r.code) (row_is b table m z.running F.class d class_8)
+  code-starts : (d : Row) → (get_or table (class_in F) d).code ≡ (class_at b (class_in F)).offset + descriptor_count (class_at b (class_in F))
+  code-starts d = ap (λ (r : Row). r.code) (row_is b table m z.running (class_in F) d class_8)
 
-  lies : record_fits b (class_at b F.class) ≡ true
+  lies : record_fits b (class_at b (class_in F)) ≡ true
   unfolding program_of
-  lies = extents b (agrees_back b z.running.accepted) F.class known-class
+  lies = extents b (agrees_back b z.running.accepted) (class_in F) known-class
 
-  in_code : F.at ≤ (class_at b F.class).code
+  in_code : address_in F ≤ (class_at b (class_in F)).code
   unfolding program_of method_at method_of
   in_code = alive.address.last
 
-  pub code_read : (d : Row) → (get_or table F.class d).code + 4 * (F.at - 1) + 3 < length b
-  code_read d = rw (code-starts d) (code-within b (class_at b F.class) F.at lies address_first in_code)
+  pub code_read : (d : Row) → (get_or table (class_in F) d).code + 4 * (address_in F - 1) + 3 < length b
+  code_read d = rw (code-starts d) (code-within b (class_at b (class_in F)) (address_in F) lies address_first in_code)
 
   -- no place of the bundle is large
-  pub place-small : (d : Row) → (get_or table F.class d).code + 4 * (F.at - 1) < 18446744073709551616
+  pub place-small : (d : Row) → (get_or table (class_in F) d).code + 4 * (address_in F - 1) < 18446744073709551616
   place-small d = omega (arith, code_read d, (lengths b (agrees_back b z.running.accepted)).1)
 
-  pub instruction-here : (d : Row) → decoded (code_from b ((get_or table F.class d).code + 4 * (F.at - 1))) ≡ X
-  instruction-here d = rw (code-starts d) (instruction-there b F.class F.at lies address_first in_code)
+  pub instruction-here : (d : Row) → decoded (code_from b ((get_or table (class_in F) d).code + 4 * (address_in F - 1))) ≡ X
+  instruction-here d = rw (code-starts d) (instruction-there b (class_in F) (address_in F) lies address_first in_code)

@@ -12,6 +12,7 @@ use Rattle.std.specs.List.{position_or_len}
 use Rattle.std.proofs.Common.{Some, None}
 use Rattle.ground.specs.Bounded.{first_below}
 use Rattle.memory.specs.declared.Frame.{Frame}
+use Rattle.memory.specs.Frames.{live_in}
 use Rattle.runner.specs.Starts.{place_in, idle_in, lowest_in}
 
 first-within : (n : ℕ) (p : ℕ → Bool) → first_below n p ≤ n
@@ -23,10 +24,10 @@ first-within (suc n) p = go (p 0) (first-within n (λ i. p (suc i)))
     go true l = omega arith
     go false l = omega arith
 
-found-first : (frames : List Frame) → position_or_len (λ (p : Frame). not (p.live)) frames ≡ first_below (length frames) (idle_in frames)
+found-first : (frames : List Frame) → position_or_len (λ (p : Frame). not (live_in p)) frames ≡ first_below (length frames) (idle_in frames)
 unfolding first_below
 found-first [] = refl
-found-first (p ∷ frames) = rw (found-first frames) (step (p.live) (first_below (length frames) (idle_in frames)))
+found-first (p ∷ frames) = rw (found-first frames) (step (live_in p) (first_below (length frames) (idle_in frames)))
   where
     step : (t : Bool) (n : ℕ) → cond (not (not t)) (1 + n) 0 ≡ cond (not t) 0 (suc n)
     step true n = omega arith
@@ -34,7 +35,7 @@ found-first (p ∷ frames) = rw (found-first frames) (step (p.live) (first_below
 
 pub lowest-found : (frames : List Frame) → length frames ≡ 8
     → place_in
-    (cond (ltb (position_or_len (λ (p : Frame). not (p.live)) frames) (length frames)) (Some (position_or_len (λ (p : Frame). not (p.live)) frames)) None)
+    (cond (ltb (position_or_len (λ (p : Frame). not (live_in p)) frames) (length frames)) (Some (position_or_len (λ (p : Frame). not (live_in p)) frames)) None)
     ≡ lowest_in frames
 unfolding lowest_in
 lowest-found frames e = rw (found-first frames, e) (go (first_below 8 (idle_in frames)) (dec_lt (first_below 8 (idle_in frames)) 8) (first-within 8 (idle_in frames)))

@@ -25,7 +25,7 @@ use Rattle.turns.specs.Moves.{went_on, throw_move, fail_move, first_fields, make
 use Rattle.memory.specs.Tab.{tab}
 use Rattle.memory.specs.Words.{slot_of, object_in}
 use Rattle.memory.specs.declared.Frame.{Frame}
-use Rattle.memory.specs.Frames.{top_in, under_in, went_in, topped_in, pushed_in, dropped_in, thrown_in}
+use Rattle.memory.specs.Frames.{address_in, depth_in, top_in, under_in, went_in, topped_in, pushed_in, dropped_in, thrown_in}
 use Rattle.memory.proofs.Tab.{tab-at}
 use Rattle.memory.proofs.Meaning.{word-object, ref-object, null-high}
 use Rattle.memory.proofs.Writes.{top_read, under-read}
@@ -37,14 +37,14 @@ use Rattle.runner.specs.Objects.{fields_in, added_in, new_in}
 use Rattle.runner.specs.Fields.{got_in, put_in}
 use Rattle.runner.specs.Poised.{Poised, Turned}
 use Rattle.runner.proofs.Stores.{threads-set, sized_set, fields-set, sized-field, fields_made, sized-made, object-made}
-use Rattle.runner.proofs.Known.{test-holds, test-rest, row_is, F, M, X, formed, depth-16, frame_16, placed-here}
+use Rattle.runner.proofs.Known.{test-holds, test-rest, row_is, F, M, X, formed, depth-16, next_fits, frame_16, placed-here}
 use Rattle.runner.proofs.Steps.{quiet, listed, goes, moved, threw, pushes}
 use Rattle.runner.proofs.Entering.{Here, either}
 
 -- the frame, and the thread at its next address
 module _ (b : List ℕ) (table : List Row) (m : Memory) (i : ℕ) (z : Poised b table m i) where
-  pub on : (p : Frame) (u : Thread) → Is p u → Is (went_in p ((F b table m i z).at + 1)) (with_at u ((F b table m i z).at + 1))
-  on p u h = went-is p u ((F b table m i z).at + 1) h
+  pub on : (p : Frame) (u : Thread) → Is p u → Is (went_in p (address_in (F b table m i z) + 1)) (with_at u (address_in (F b table m i z) + 1))
+  on p u h = went-is p u (address_in (F b table m i z) + 1) h (next_fits b table m i z)
 
   pub resized : (p : Frame) (fields : List ℕ) → Sized m.frames fields → (u : Thread) → Is p u → Sized (set m.frames i p) fields
   resized p fields s u h = sized_set m.frames i p z.running.sized.frames_8 z.thread_8 fields s h.sized
@@ -75,11 +75,11 @@ module _ (b : List ℕ) (table : List Row) (m : Memory) (i : ℕ) (z : Poised b 
       ≡ make_move (program_of b) (state_from m) i (Here m i) c
   new-makes f = rw f
 
-  new-room : Large ≡ false → (F b table m i z).depth < 16
+  new-room : Large ≡ false → depth_in (F b table m i z) < 16
   new-room f = pushes b table m i z fails (test-holds (room (M b table m i z).limit (Here m i)) 12 0 (omega arith) (rw f at (quiet b table m i z fails (New c h) q)))
 
   pub new-turned : (r : ℕ) (m' : Memory) (d : Row)
-      → acted r m' ≡ new_in m i (M b table m i z).vars fails c (get_or table c d).first h.0 ((F b table m i z).at + 1) → Turned b m m' r i fails
+      → acted r m' ≡ new_in m i (M b table m i z).vars fails c (get_or table c d).first h.0 (address_in (F b table m i z) + 1) → Turned b m m' r i fails
   unfolding new_in added_in
   new-turned r m' d e = subst Q (sym e) (either Q Large _ _ full some)
     where
@@ -90,7 +90,7 @@ module _ (b : List ℕ) (table : List Row) (m : Memory) (i : ℕ) (z : Poised b 
       full f = threw b table m i z fails (New c h) q refl h 4294967296 (listed b table m i z fails (New c h) q).1 (new-throws f)
 
       some : Large ≡ false → Turned b m
-          (memory (set m.frames i (went_in (pushed_in (F b table m i z) (4294967296 + m.objects)) ((F b table m i z).at + 1))) m.counts m.held (m.objects + 1) (set m.classes m.objects c)
+          (memory (set m.frames i (went_in (pushed_in (F b table m i z) (4294967296 + m.objects)) (address_in (F b table m i z) + 1))) m.counts m.held (m.objects + 1) (set m.classes m.objects c)
           (fields_in m.fields m.objects (get_or table c d).first))
           0 i fails
       some f =
@@ -115,7 +115,7 @@ module _ (b : List ℕ) (table : List Row) (m : Memory) (i : ℕ) (z : Poised b 
           ∙ ap (λ (fs : List Slot). record {
             answer = 0;
             state = record {
-              threads = tab 8 (thread_from (set m.frames i (went_in (pushed_in (F b table m i z) (4294967296 + m.objects)) ((F b table m i z).at + 1))));
+              threads = tab 8 (thread_from (set m.frames i (went_in (pushed_in (F b table m i z) (4294967296 + m.objects)) (address_in (F b table m i z) + 1))));
               counts = m.counts;
               objects = m.objects + 1;
               classes = set m.classes m.objects c;
@@ -141,8 +141,8 @@ module _ (b : List ℕ) (table : List Row) (m : Memory) (i : ℕ) (z : Poised b 
 -- ---- fields
 module _ (b : List ℕ) (table : List Row) (m : Memory) (i : ℕ) (z : Poised b table m i) where
   -- what refers on the stack refers to an object
-  entry-refers : (j : ℕ) → j < (F b table m i z).depth → refers m.objects (from_top (Here m i) j) ≡ true
-  entry-refers j l = (placed-here b table m i z).stack_refers ((F b table m i z).depth - 1 - j) (omega arith)
+  entry-refers : (j : ℕ) → j < depth_in (F b table m i z) → refers m.objects (from_top (Here m i) j) ≡ true
+  entry-refers j l = (placed-here b table m i z).stack_refers (depth_in (F b table m i z) - 1 - j) (omega arith)
 
   -- an owner that isn't null, with the word w
   owner-refers : (x : Slot) (w c : ℕ) → x ≡ slot_of w → may_be_object m.classes c x ≡ true → leb 4294967552 w ≡ false → is_ref x ≡ true
@@ -157,7 +157,7 @@ module _ (b : List ℕ) (table : List Row) (m : Memory) (i : ℕ) (z : Poised b 
 
 -- getfield
 module _ (b : List ℕ) (table : List Row) (m : Memory) (i : ℕ) (z : Poised b table m i) (fails : Bool) (c f : ℕ) (h : Addr) (q : X b table m i z ≡ Get c f h) where
-  get-deep : 1 ≤ (F b table m i z).depth
+  get-deep : 1 ≤ depth_in (F b table m i z)
   get-deep = leb-true 1 _ (test-holds (has 1 (Here m i)) 11 _ (omega arith) (quiet b table m i z fails (Get c f h) q))
 
   get-owner : may_be_object m.classes c (top_of (Here m i)) ≡ true
@@ -186,7 +186,7 @@ module _ (b : List ℕ) (table : List Row) (m : Memory) (i : ℕ) (z : Poised b 
         (ap (λ (x : Slot). went_on (state_from m) i (Here m i).at (topped (Here m i) x)) (tab-at 128 (slot_from m.fields) (object_in (top_in (F b table m i z)) * 4 + f) zero_slot get-known))
 
   pub get-turned : (r : ℕ) (m' : Memory)
-      → acted r m' ≡ got_in m i (M b table m i z).vars f h.0 ((F b table m i z).at + 1) → Turned b m m' r i fails
+      → acted r m' ≡ got_in m i (M b table m i z).vars f h.0 (address_in (F b table m i z) + 1) → Turned b m m' r i fails
   unfolding got_in
   get-turned r m' e = subst Q (sym e) (either Q (leb 4294967552 (top_in (F b table m i z))) _ _ throws reads)
     where
@@ -202,14 +202,14 @@ module _ (b : List ℕ) (table : List Row) (m : Memory) (i : ℕ) (z : Poised b 
           threw b table m i z fails (Get c f h) q refl h 4294967296 (listed b table m i z fails (Get c f h) q).2 k
 
       reads : leb 4294967552 (top_in (F b table m i z)) ≡ false
-          → Turned b m (framed m i (went_in (topped_in (F b table m i z) (at m.fields (object_in (top_in (F b table m i z)) * 4 + f))) ((F b table m i z).at + 1))) 0 i fails
+          → Turned b m (framed m i (went_in (topped_in (F b table m i z) (at m.fields (object_in (top_in (F b table m i z)) * 4 + f))) (address_in (F b table m i z) + 1))) 0 i fails
       reads g =
           moved b table m i z fails (Get c f h) q refl _ _ 0
           (on b table m i z _ _ (topped-is (F b table m i z) (frame_16 b table m i z) (depth-16 b table m i z) (at m.fields (object_in (top_in (F b table m i z)) * 4 + f)) get-deep)) (get-moves g)
 
 -- putfield
 module _ (b : List ℕ) (table : List Row) (m : Memory) (i : ℕ) (z : Poised b table m i) (fails : Bool) (c f : ℕ) (h : Addr) (q : X b table m i z ≡ Put c f h) where
-  put-deep : 2 ≤ (F b table m i z).depth
+  put-deep : 2 ≤ depth_in (F b table m i z)
   put-deep = leb-true 2 _ (test-holds (has 2 (Here m i)) 11 _ (omega arith) (quiet b table m i z fails (Put c f h) q))
 
   put-owner : may_be_object m.classes c (from_top (Here m i) 1) ≡ true
@@ -251,7 +251,7 @@ module _ (b : List ℕ) (table : List Row) (m : Memory) (i : ℕ) (z : Poised b 
         rw (n, ← owner-object b table m i z (from_top (Here m i) 1) (under_in (F b table m i z)) put_word put-refers, put-value)
 
   pub put-turned : (r : ℕ) (m' : Memory)
-      → acted r m' ≡ put_in m i (M b table m i z).vars f h.0 ((F b table m i z).at + 1) → Turned b m m' r i fails
+      → acted r m' ≡ put_in m i (M b table m i z).vars f h.0 (address_in (F b table m i z) + 1) → Turned b m m' r i fails
   unfolding put_in
   put-turned r m' e = subst Q (sym e) (either Q (leb 4294967552 (under_in (F b table m i z))) _ _ throws writes)
     where
@@ -268,7 +268,7 @@ module _ (b : List ℕ) (table : List Row) (m : Memory) (i : ℕ) (z : Poised b 
 
       writes : leb 4294967552 (under_in (F b table m i z)) ≡ false
           → Turned b m
-          (memory (set m.frames i (went_in (dropped_in 2 (F b table m i z)) ((F b table m i z).at + 1))) m.counts m.held m.objects m.classes
+          (memory (set m.frames i (went_in (dropped_in 2 (F b table m i z)) (address_in (F b table m i z) + 1))) m.counts m.held m.objects m.classes
           (set m.fields (object_in (under_in (F b table m i z)) * 4 + f) (top_in (F b table m i z))))
           0 i fails
       writes g =
@@ -290,7 +290,7 @@ module _ (b : List ℕ) (table : List Row) (m : Memory) (i : ℕ) (z : Poised b 
           ∙ ap (λ (fs : List Slot). record {
             answer = 0;
             state = record {
-              threads = tab 8 (thread_from (set m.frames i (went_in (dropped_in 2 (F b table m i z)) ((F b table m i z).at + 1))));
+              threads = tab 8 (thread_from (set m.frames i (went_in (dropped_in 2 (F b table m i z)) (address_in (F b table m i z) + 1))));
               counts = m.counts;
               objects = m.objects;
               classes = m.classes;

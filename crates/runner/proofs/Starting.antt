@@ -24,7 +24,7 @@ use Rattle.turns.specs.Waits.{wait_of}
 use Rattle.turns.specs.Moves.{move_of}
 use Rattle.memory.specs.Tab.{tab}
 use Rattle.memory.specs.declared.Frame.{Frame}
-use Rattle.memory.specs.Frames.{thread_in, went_in, dropped_in, argument_in, begun_in}
+use Rattle.memory.specs.Frames.{live_in, address_in, depth_in, thread_in, went_in, dropped_in, argument_in, begun_in}
 use Rattle.memory.proofs.Frames.{Is, dropped-is, begun-is}
 use Rattle.runner.specs.declared.table.Row.{Row}
 use Rattle.runner.specs.declared.running.Memory.{Memory}
@@ -62,7 +62,7 @@ module _ (b : List ℕ) (table : List Row) (m : Memory) (i : ℕ) (z : Poised b 
   pub start-known : (n : ℕ) (d : Row) → n ≡ (get_or table c d).args → (i < 8) × (n < 255)
   start-known n d e = (z.thread_8, omega (arith, args_are b table m i z c d class_known, few-args))
 
-  deep : ((program_of b).method c).args + 1 ≤ (F b table m i z).depth
+  deep : ((program_of b).method c).args + 1 ≤ depth_in (F b table m i z)
   deep = leb-true _ _ (test-holds (has (((program_of b).method c).args + 1) (Here m i)) 11 _ (omega arith) (quiet b table m i z fails (Start c) q))
 
   wait-is : (t : Bool) → ltb (lowest_in m.frames) 8 ≡ t → wait_of (state_from m) i (Here m i) (Start c) ≡ test t 4 0
@@ -75,7 +75,7 @@ module _ (b : List ℕ) (table : List Row) (m : Memory) (i : ℕ) (z : Poised b 
     new-idle = first-is 8 (idle_in m.frames) l
 
     other : i ≢ J
-    other e = never z.live (subst (λ (j : ℕ). (frame_of m.frames j).live ≡ false) (sym e) (not-true _ new-idle))
+    other e = never z.live (subst (λ (j : ℕ). live_in (frame_of m.frames j) ≡ false) (sym e) (not-true _ new-idle))
 
     -- what is written, with n arguments
     module _ (n : ℕ) (en : n ≡ ((program_of b).method c).args) where
@@ -86,13 +86,13 @@ module _ (b : List ℕ) (table : List Row) (m : Memory) (i : ℕ) (z : Poised b 
       Next = set m.frames J First
 
       abbrev Last : Frame
-      Last = went_in (dropped_in (n + 1) (frame_of Next i)) ((F b table m i z).at + 1)
+      Last = went_in (dropped_in (n + 1) (frame_of Next i)) (address_in (F b table m i z) + 1)
 
       first-thread : Is First (started (thread_in (frame_of m.frames J)) (Here m i) c n)
       first-thread =
-          begun-is (frame_of m.frames J) (F b table m i z) (z.running.sized.frame_16 J l) (depth-16 b table m i z) n c (omega (arith, deep))
+          begun-is (frame_of m.frames J) (F b table m i z) (z.running.sized.frame_16 J l) (depth-16 b table m i z) n c (omega (arith, deep)) (omega (arith, start-class))
 
-      last-thread : Is Last (with_at (popped (n + 1) (Here m i)) ((F b table m i z).at + 1))
+      last-thread : Is Last (with_at (popped (n + 1) (Here m i)) (address_in (F b table m i z) + 1))
       last-thread =
           rw (frame-other m.frames J First z.running.sized.frames_8 l i other)
           (on b table m i z _ _ (dropped-is (F b table m i z) (frame_16 b table m i z) (depth-16 b table m i z) (n + 1) (omega (arith, deep))))
@@ -101,10 +101,10 @@ module _ (b : List ℕ) (table : List Row) (m : Memory) (i : ℕ) (z : Poised b 
       next-8 = length-set m.frames J First ∙ z.running.sized.frames_8
 
       all-threads : tab 8 (thread_from (set Next i Last))
-          ≡ set (set (tab 8 (thread_from m.frames)) J (started (thread_in (frame_of m.frames J)) (Here m i) c n)) i (with_at (popped (n + 1) (Here m i)) ((F b table m i z).at + 1))
+          ≡ set (set (tab 8 (thread_from m.frames)) J (started (thread_in (frame_of m.frames J)) (Here m i) c n)) i (with_at (popped (n + 1) (Here m i)) (address_in (F b table m i z) + 1))
       all-threads =
           threads-set Next i Last next-8 z.thread_8 _ last-thread.thread
-          ∙ ap (λ (ts : List Thread). set ts i (with_at (popped (n + 1) (Here m i)) ((F b table m i z).at + 1)))
+          ∙ ap (λ (ts : List Thread). set ts i (with_at (popped (n + 1) (Here m i)) (address_in (F b table m i z) + 1)))
           (threads-set m.frames J First z.running.sized.frames_8 l _ first-thread.thread)
 
       all-sized : Sized (set Next i Last) m.fields
@@ -119,7 +119,7 @@ module _ (b : List ℕ) (table : List Row) (m : Memory) (i : ℕ) (z : Poised b 
       unfolding state-with
       start-moves =
           rw (lowest-is, ← en)
-          (ap (λ (v : Thread). state-with (set (set (tab 8 (thread_from m.frames)) J (started v (Here m i) c n)) i (with_at (popped (n + 1) (Here m i)) ((F b table m i z).at + 1))))
+          (ap (λ (v : Thread). state-with (set (set (tab 8 (thread_from m.frames)) J (started v (Here m i) c n)) i (with_at (popped (n + 1) (Here m i)) (address_in (F b table m i z) + 1))))
           (thread-is b table m z.running J l)
           ∙ ap state-with (sym all-threads))
 
@@ -128,7 +128,7 @@ module _ (b : List ℕ) (table : List Row) (m : Memory) (i : ℕ) (z : Poised b 
       start-begins = goes b table m i z fails (Start c) q (wait-is true (lt-ltb J 8 l)) _ 0 all-sized start-moves
 
   pub start-turned : (r : ℕ) (m' : Memory) (n : ℕ) (d : Row) → n ≡ (get_or table c d).args
-      → acted r m' ≡ started_in m i n c ((F b table m i z).at + 1) → Turned b m m' r i fails
+      → acted r m' ≡ started_in m i n c (address_in (F b table m i z) + 1) → Turned b m m' r i fails
   unfolding started_in refuse
   start-turned r m' n d en e =
       subst Q (sym e)

@@ -1,5 +1,5 @@
 -- A running machine as arrays, which its steps change in place, and the state that they stand for.
-use Rattle.std.specs.Prelude.{◌≡◌, List, [], false, cond, ℕ, ◌<◌, eqb, length, get_or, set}
+use Rattle.std.specs.Prelude.{◌≡◌, List, [], cond, ℕ, ◌<◌, eqb, length, get_or, set}
 use Rattle.values.specs.declared.Slot.{Slot}
 use Rattle.threads.specs.declared.Thread.{Thread}
 use Rattle.state.specs.declared.State.{State}
@@ -15,7 +15,7 @@ memory frames counts held objects classes fields =
 
 -- what stands where there is no frame
 abbrev pub no_frame : Frame
-no_frame = record { vars = []; stack = []; class = 0; at = 0; depth = 0; live = false }
+no_frame = record { vars = []; stack = []; class = 0; at = 0; depth = 0; live = 0 }
 
 -- the frame of thread i
 abbrev pub frame_of : List Frame → ℕ → Frame

@@ -7,6 +7,7 @@ use Rattle.verifier.specs.Verdict.{verdict_of}
 use Rattle.machine.specs.Machine.{step_of}
 use Rattle.soundness.specs.Invariant.{Inv}
 use Rattle.memory.specs.Tab.{tab}
+use Rattle.memory.specs.Frames.{live_in, class_in, address_in}
 use Rattle.runner.specs.declared.table.Row.{Row}
 use Rattle.runner.specs.Table.{row_of}
 use Rattle.runner.specs.declared.running.Memory.{Memory}
@@ -24,17 +25,17 @@ pub record Running (b : List ℕ) (table : List Row) (m : Memory) : Type 0 where
 pub record Poised (b : List ℕ) (table : List Row) (m : Memory) (i : ℕ) : Type 0 where
   pub running : Running b table m
   pub thread_8 : i < 8
-  pub live : (frame_of m.frames i).live ≡ true
+  pub live : live_in (frame_of m.frames i) ≡ true
 
 -- where thread i takes its step, and the instruction there
 abbrev pub method_here : List ℕ → Memory → ℕ → Method
-method_here b m i = (program_of b).method ((frame_of m.frames i).class)
+method_here b m i = (program_of b).method (class_in (frame_of m.frames i))
 
 abbrev pub here_of : List ℕ → Memory → ℕ → Here
-here_of b m i = record { thread = i; vars = (method_here b m i).vars; next = (frame_of m.frames i).at + 1 }
+here_of b m i = record { thread = i; vars = (method_here b m i).vars; next = address_in (frame_of m.frames i) + 1 }
 
 abbrev pub instruction_here : List ℕ → Memory → ℕ → Instruction
-instruction_here b m i = (method_here b m i).instruction ((frame_of m.frames i).at)
+instruction_here b m i = (method_here b m i).instruction (address_in (frame_of m.frames i))
 
 -- the answer and the new memory are those of document 01's step of thread i
 pub record Turned (b : List ℕ) (m m' : Memory) (answer i : ℕ) (fails : Bool) : Type 0 where

@@ -3,12 +3,12 @@ use Rattle.std.specs.Prelude.{List, Bool, cond, not, Option, Some, None, ℕ, �
 use Rattle.ground.specs.Bounded.{first_below}
 use Rattle.memory.specs.declared.Frame.{Frame}
 use Rattle.memory.specs.Tab.{tab}
-use Rattle.memory.specs.Frames.{argument_in, begun_in, went_in, dropped_in}
+use Rattle.memory.specs.Frames.{live_in, argument_in, begun_in, went_in, dropped_in}
 use Rattle.runner.specs.declared.running.Memory.{Memory}
 use Rattle.runner.specs.Memory.{frame_of, framed, Acted, acted}
 
 abbrev pub idle_in : List Frame → ℕ → Bool
-idle_in frames j = not ((frame_of frames j).live)
+idle_in frames j = not (live_in (frame_of frames j))
 
 -- the lowest thread number that is free, 8 where there is none
 unfoldable pub lowest_in : List Frame → ℕ

@@ -13,7 +13,7 @@ fn lowest(frames: &[Frame; 8]) -> Option<usize>
     ensures place { place_in result ≡ lowest_in frames.now }
     ensures within { IfSome result (λ j. j < 8) }
 {
-    frames.iter().position(|frame| !frame.live)
+    frames.iter().position(|frame| !frame.live())
 }
 
 // Crowded where eight threads are live.

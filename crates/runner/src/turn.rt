@@ -15,8 +15,8 @@ fn stand(b: &[u8], table: &[Row; 8], m: &Memory, i: usize) -> (Here, Instruction
     ensures here { result.0 ≡ here_of b.now m.now i }
     ensures instruction { result.1 ≡ instruction_here b.now m.now i }
 {
-    let q = m.frames[i].class as usize;
-    let at = m.frames[i].at;
+    let q = m.frames[i].class() as usize;
+    let at = m.frames[i].address();
     let here = Here {
         thread: i,
         vars: table[q].vars,
@@ -87,7 +87,7 @@ pub(crate) fn turn(b: &[u8], table: &[Row; 8], m: &mut Memory, x: u8) -> Answer
     ensures { Turned b.now m.old m.new (answer_number result) (x % 8) (leb 128 x) }
 {
     let i = (x % 8) as usize;
-    if !m.frames[i].live {
+    if !m.frames[i].live() {
         return Answer::NotLive;
     }
     exec(b, table, m, i, 128 <= x)

@@ -1,6 +1,7 @@
 use Rattle.runner.proofs.Known.{rests}
 use native.Mathlib.Omega.{arith}
+use mathlib.Core.Path.{sym, ◌∙◌}
 use Rattle.runner.proofs.turn.turn.Goals as goal
 
-pub returns-then-not-m-i : goal.returns-then-not-m-i
-returns-then-not-m-i c = rests _ _ _ c.requires _ (omega arith) _ c.if-not-m-i.true
+pub returns-then-not-live : goal.returns-then-not-live
+returns-then-not-live c = rests _ _ _ c.requires _ (omega arith) _ (sym c.live.ensures ∙ c.if-not-live.true)
