@@ -1,13 +1,28 @@
 // The output, line by line.
+ghost use Rattle.std.specs.Prelude.{◌++◌, codes, OnOk};
+ghost use Rattle.std.specs.Io.KnownBytes.{Appends};
+ghost use Rattle.values.specs.Text.{slot_text};
+
 use state::State;
 use std::io;
 use std::io::Write;
 use threads::Thread;
-use values::Slot;
+use values::{Slot, Value};
+
+// A blank, and then what `Display` of the place writes: the blank goes out in one write with the letter.
+fn put_place<W: Write>(out: &mut W, place: Slot) -> io::Result<()>
+    ensures { OnOk result (Appends (W.contents out.old) (W.contents out.new) (codes " " ++ slot_text place)) }
+{
+    match place.value {
+        Value::Int(z) => write!(out, " i{z}"),
+        Value::Ref(o) => write!(out, " r{o}"),
+        Value::Null => write!(out, " null"),
+    }
+}
 
 fn put_places(out: &mut impl Write, places: &[Slot]) -> io::Result<()> {
     for place in places {
-        write!(out, " {place}")?;
+        put_place(out, *place)?;
     }
     Ok(())
 }

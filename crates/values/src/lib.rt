@@ -1,7 +1,8 @@
 // A value of the machine, and what the instructions do with one.
 #![tactic(auto)]
 
-ghost use Rattle.std.specs.Prelude.{◌≡◌};
+ghost use Rattle.std.specs.Prelude.{◌≡◌, Some};
+ghost use Rattle.values.specs.Text.{slot_text};
 ghost use Rattle.values.specs.Values.{zero_slot, ref_slot, null_slot, int_slot, bits_of_slot, is_int, is_null, is_ref, object_of, inc_slot, jumps, refers};
 
 use std::fmt;
@@ -21,6 +22,8 @@ pub struct Slot {
 
 // An integer as i and the number, a reference as r and the object's number.
 impl fmt::Display for Slot {
+    ghost output = { λ x. Some (slot_text x) };
+
     fn fmt<W: fmt::Write>(&self, f: &mut fmt::Formatter<W>) -> fmt::Result {
         match self.value {
             Value::Int(z) => write!(f, "i{z}"),

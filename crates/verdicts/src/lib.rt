@@ -1,8 +1,9 @@
 // Why a bundle is refused, and the numbers that the document has for it.
 #![tactic(auto)]
 
-ghost use Rattle.std.specs.Prelude.{◌≡◌};
+ghost use Rattle.std.specs.Prelude.{◌≡◌, Some};
 ghost use Rattle.verdicts.specs.Numbers.{why_number, numbers, judgement};
+ghost use Rattle.verdicts.specs.Text.{refusal_text};
 ghost use Rattle.verdicts.specs.Verdicts.{verdict};
 ghost use Rattle.verdicts.specs.declared.Why.TheVariants.{Misfit};
 
@@ -128,6 +129,8 @@ impl Refusal {
 
 // Why is told of a 9 only.
 impl fmt::Display for Refusal {
+    ghost output = { λ r. Some (refusal_text r) };
+
     fn fmt<W: fmt::Write>(&self, f: &mut fmt::Formatter<W>) -> fmt::Result {
         let v = self.numbers();
         write!(
