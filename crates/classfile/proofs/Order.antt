@@ -4,6 +4,7 @@ use mathlib.Core.Bool.{Bool, true, false, cond}
 use mathlib.Core.List.{List}
 use Prim.Native.Nat.{ℕ, zero, suc, ◌+◌, ◌*◌, ◌/◌, ◌≤◌, ◌<◌}
 use native.Mathlib.Omega.{arith}
+use native.Mathlib.Decide.{dec_lt}
 use lib.ListN.{length}
 use lib.Dec.{leb}
 use borrow.Author.Tests.{le-leb, lt-leb, leb-true, ne_eqb}
@@ -93,6 +94,14 @@ first_under (suc n) p = go (p 0) (first_under n (λ i. p (suc i)))
 pub past-under : (code : List ℕ) (limit : ℕ) {f : ℕ} → f ≡ first_past code limit → f ≤ length code
 unfolding first_past
 past-under code limit e = rw e (first_under (length code) (past_at code limit))
+
+-- none is past the limit where all that is written stays within it
+pub none-past : (code : List ℕ) (limit : ℕ) → total code ≤ limit → length code ≡ first_past code limit
+none-past code limit l = go (dec_lt (first_past code limit) (length code))
+  where
+    go : Dec (first_past code limit < length code) → length code ≡ first_past code limit
+    go (yes p) = absurd (omega (arith, past_some code limit p refl))
+    go (no p) = omega (arith, past-under code limit refl)
 
 -- ---- the parts of the attribute
 pub whole-end : (a : List ℕ) → whole a ≡ true → (table_end a ≤ length a) × (table_at a + 2 ≤ table_end a)

@@ -5,6 +5,9 @@ mod attribute;
 mod rows;
 
 ghost use Rattle.std.specs.Prelude.{◌≡◌, ◌<◌, length};
+ghost use Rattle.ground.specs.Bounded.{Told};
+ghost use Rattle.offsets.specs.Offsets.{total};
+ghost use Rattle.offsets.specs.Offenders.{first_past};
 ghost use Rattle.classfile.specs.Taking.{taken_in, judged, taken_of, out_of};
 
 // Why nothing is taken, with the first offender's offset in the code.
@@ -20,6 +23,17 @@ pub enum Untaken {
     Room(u32),
 }
 
+// The first instruction past the limit. The code, which writes `all`, is read for it only where there is one.
+fn past(code: &[u8], all: usize, limit: usize) -> Option<usize>
+    requires { all ≡ total code.now }
+    ensures { Told (length code.now) (first_past code.now limit) result }
+{
+    if all <= limit {
+        return None;
+    }
+    offsets::first_past(code, limit)
+}
+
 fn judge(classes: &[u8], code: &[u8], table: &[u8], room: usize) -> Result<u32, Untaken>
     requires { length code.now < 4294967296 }
     ensures { taken_in result ≡ judged classes.now code.now table.now room }
@@ -33,13 +47,14 @@ fn judge(classes: &[u8], code: &[u8], table: &[u8], room: usize) -> Result<u32, 
     if let Some(i) = offsets::first_stray_entry(code, table) {
         return Err(Untaken::Stray(offsets::handler_at(table, i) as u32));
     }
-    if let Some(at) = offsets::first_past(code, 256) {
+    let all = offsets::total(code);
+    if let Some(at) = past(code, all, 256) {
         return Err(Untaken::Long(at as u32));
     }
-    if let Some(at) = offsets::first_past(code, room / 4) {
+    if let Some(at) = past(code, all, room / 4) {
         return Err(Untaken::Room(at as u32));
     }
-    Ok(offsets::total(code) as u32)
+    Ok(all as u32)
 }
 
 // The instructions of the Code attribute, written into the lent buffer; or a refusal, and the buffer as it came.

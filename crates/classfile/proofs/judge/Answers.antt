@@ -14,19 +14,19 @@ returns-in-Some-first_stray_entry c =
     let h = c.in-Some-first_stray_entry.ensures in
     refused-entry _ _ _ _ c.in_default.ensures c.in_default-first_stray.ensures h.1 h.0 c.handler_at.ensures
 
-pub returns-in-Some-first_past : goal.returns-in-Some-first_past
-returns-in-Some-first_past c =
-    let h = c.in-Some-first_past.ensures in
+pub returns-in-Some-past : goal.returns-in-Some-past
+returns-in-Some-past c =
+    let h = c.in-Some-past.ensures in
     refused-33 _ _ _ _ (record { known = c.in_default.ensures; stray = c.in_default-first_stray.ensures; entry = c.in_default-first_stray_entry.ensures }) h.0 h.1
 
-pub returns-in-Some-first_past-2 : goal.returns-in-Some-first_past-2
-returns-in-Some-first_past-2 c =
-    let h = c.in-Some-first_past-2.ensures in
-    refused-34 _ _ _ _ (record { known = c.in_default.ensures; stray = c.in_default-first_stray.ensures; entry = c.in_default-first_stray_entry.ensures }) c.in_default-first_past.ensures h.0 h.1
+pub returns-in-Some-past-2 : goal.returns-in-Some-past-2
+returns-in-Some-past-2 c =
+    let h = c.in-Some-past-2.ensures in
+    refused-34 _ _ _ _ (record { known = c.in_default.ensures; stray = c.in_default-first_stray.ensures; entry = c.in_default-first_stray_entry.ensures }) c.in_default-past.ensures h.0 h.1
 
 pub overflow_cast-result-2 : goal.overflow_cast-result-2
-overflow_cast-result-2 c = omega (arith, past_none c.args.code.now 256 c.in_default-first_past.ensures, c.total.ensures)
+overflow_cast-result-2 c = omega (arith, past_none c.args.code.now 256 c.in_default-past.ensures, c.total-all.ensures)
 
 pub returns : goal.returns
 returns c =
-    took _ _ _ _ (record { known = c.in_default.ensures; stray = c.in_default-first_stray.ensures; entry = c.in_default-first_stray_entry.ensures }) c.in_default-first_past.ensures c.in_default-first_past-2.ensures c.total.ensures
+    took _ _ _ _ (record { known = c.in_default.ensures; stray = c.in_default-first_stray.ensures; entry = c.in_default-first_stray_entry.ensures }) c.in_default-past.ensures c.in_default-past-2.ensures c.total-all.ensures
