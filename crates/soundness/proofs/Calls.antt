@@ -23,11 +23,10 @@ module _ {R : Type 0} (of : R → Stepped) (b : List ℕ) (e : (verdict_of b).nu
   inv-given s inv (c ∷ cs) k = inv-given (of c.result).state (inv-kept s inv c k.0) cs k.1
 
   served : (s : State) → Inv (P b e) s → (c : Call R) → Answered of b s c → Served of b s c
-  served s inv c k =
-      (
-        subst (λ (r : Stepped). Sound s c.who r.answer r.state) (sym k) (sound b e s inv (record { who = c.who; fails = c.fails })),
-        safe b e (of c.result).state (inv-kept s inv c k)
-      )
+  served s inv c k = (
+    subst (λ (r : Stepped). Sound s c.who r.answer r.state) (sym k) (sound b e s inv (record { who = c.who; fails = c.fails })),
+    safe b e (of c.result).state (inv-kept s inv c k),
+  )
 
   all-served : AllServed of b
   unfolding run
