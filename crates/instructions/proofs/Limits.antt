@@ -1,6 +1,6 @@
 -- The limits that the code reads are the table's.
 use mathlib.Core.Path.{◌≡◌, refl, sym, ◌∙◌}
-use mathlib.Core.Bool.{Bool, true, false, ◌&&◌, ◌||◌, not}
+use mathlib.Core.Bool.{Bool, true, false, cond, ◌&&◌, ◌||◌, not}
 use Prim.Native.Nat.{ℕ, zero, suc, ◌<◌, ◌≤◌, ◌/◌, ◌%◌}
 use native.Mathlib.Omega.{arith}
 use native.Mathlib.Decide.{ℕ_discrete}
@@ -35,6 +35,27 @@ turned true false false = refl
 
 other : (o n : ℕ) → 14 < o → n < 15 → o ≡ n → ⊥
 other o n l p e = omega (arith, l, p, e)
+
+-- what is reached is 0 but at the lines of a target and a handler
+pub reach-told : (code opcode m : ℕ) → m < 16 → opcode % 16 ≡ m → cond (((eqb (opcode % 16) 6 || eqb (opcode % 16) 7) || eqb (opcode % 16) 9) || eqb (opcode % 16) 11) code 0 ≡ address_reach code opcode
+unfolding address_reach
+reach-told code opcode zero l e = rw e
+reach-told code opcode (suc zero) l e = rw e
+reach-told code opcode (suc (suc zero)) l e = rw e
+reach-told code opcode (suc (suc (suc zero))) l e = rw e
+reach-told code opcode (suc (suc (suc (suc zero)))) l e = rw e
+reach-told code opcode (suc (suc (suc (suc (suc zero))))) l e = rw e
+reach-told code opcode (suc (suc (suc (suc (suc (suc zero)))))) l e = rw e
+reach-told code opcode (suc (suc (suc (suc (suc (suc (suc zero))))))) l e = rw e
+reach-told code opcode (suc (suc (suc (suc (suc (suc (suc (suc zero)))))))) l e = rw e
+reach-told code opcode (suc (suc (suc (suc (suc (suc (suc (suc (suc zero))))))))) l e = rw e
+reach-told code opcode (suc (suc (suc (suc (suc (suc (suc (suc (suc (suc zero)))))))))) l e = rw e
+reach-told code opcode (suc (suc (suc (suc (suc (suc (suc (suc (suc (suc (suc zero))))))))))) l e = rw e
+reach-told code opcode (suc (suc (suc (suc (suc (suc (suc (suc (suc (suc (suc (suc zero)))))))))))) l e = rw e
+reach-told code opcode (suc (suc (suc (suc (suc (suc (suc (suc (suc (suc (suc (suc (suc zero))))))))))))) l e = rw e
+reach-told code opcode (suc (suc (suc (suc (suc (suc (suc (suc (suc (suc (suc (suc (suc (suc zero)))))))))))))) l e = rw e
+reach-told code opcode (suc (suc (suc (suc (suc (suc (suc (suc (suc (suc (suc (suc (suc (suc (suc zero))))))))))))))) l e = rw e
+reach-told code opcode (suc (suc (suc (suc (suc (suc (suc (suc (suc (suc (suc (suc (suc (suc (suc (suc m)))))))))))))))) l e = absurd (omega (arith, l))
 
 module _ (classes : ℕ) (fields : ℕ → ℕ) (vars code : ℕ) where
   -- opcodes up to 12, one by one

@@ -74,12 +74,15 @@ fn operand_limit(classes: u8, vars: u8, opcode: u8) -> u8
     limits[(kinds[(opcode % 16) as usize] % 4) as usize]
 }
 
-// The greatest address of a line: 0, or k for a target and a handler.
+// The greatest address of a line: 0, or k for a target and a handler. No table of sixteen is laid out for each instruction.
 fn address_reach(code: u16, opcode: u8) -> u16
     ensures { result ≡ address_reach code opcode }
 {
-    let reaches: [u16; 16] = [0, 0, 0, 0, 0, 0, code, code, 0, code, 0, code, 0, 0, 0, 0];
-    reaches[(opcode % 16) as usize]
+    let line = opcode % 16;
+    if (line == 6) | (line == 7) | (line == 9) | (line == 11) {
+        return code;
+    }
+    0
 }
 
 // The lines up to 12; a target is not 0.
