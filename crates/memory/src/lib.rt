@@ -11,16 +11,16 @@ ghost use Rattle.memory.specs.Words.{inc_word};
 
 use instructions::{Addr, Var};
 
-// The words of its variables and of its stack places, from the bottom. Any words are a frame: class and depth are read modulo 256, the address modulo 65536, and
-// `live` is not 0 where the thread lives.
+// The stack places are from the bottom. Any 36 words are a frame: class and depth are read modulo 256, the address modulo 65536, and `live` is not 0 where the thread
+// lives. These four come first, where a step reaches them by the frame's own address.
 #[derive(Clone, Copy)]
 pub struct Frame {
-    pub vars: [u64; 16],
-    pub stack: [u64; 16],
     pub class: u64,
     pub at: u64,
     pub depth: u64,
     pub live: u64,
+    pub vars: [u64; 16],
+    pub stack: [u64; 16],
 }
 
 impl Frame {
