@@ -9,7 +9,7 @@ use std::io::Write;
 use threads::Thread;
 use values::{Slot, Value};
 
-// A blank, and then what `Display` of the place writes: the blank goes out in one write with the letter.
+// A blank and a value. The blank goes out in one write with the letter.
 fn put_place<W: Write>(out: &mut W, place: Slot) -> io::Result<()>
     ensures { OnOk result (Appends (W.contents out.old) (W.contents out.new) (codes " " ++ slot_text place)) }
 {

@@ -1,11 +1,8 @@
 // A value of the machine, and what the instructions do with one.
 #![tactic(auto)]
 
-ghost use Rattle.std.specs.Prelude.{◌≡◌, Some};
-ghost use Rattle.values.specs.Text.{slot_text};
+ghost use Rattle.std.specs.Prelude.{◌≡◌};
 ghost use Rattle.values.specs.Values.{zero_slot, ref_slot, null_slot, int_slot, bits_of_slot, is_int, is_null, is_ref, object_of, inc_slot, jumps, refers};
-
-use std::fmt;
 
 #[derive(Clone, Copy, PartialEq, Eq)]
 pub enum Value {
@@ -18,19 +15,6 @@ pub enum Value {
 #[derive(Clone, Copy, PartialEq, Eq)]
 pub struct Slot {
     pub value: Value,
-}
-
-// An integer as i and the number, a reference as r and the object's number.
-impl fmt::Display for Slot {
-    ghost output = { λ x. Some (slot_text x) };
-
-    fn fmt<W: fmt::Write>(&self, f: &mut fmt::Formatter<W>) -> fmt::Result {
-        match self.value {
-            Value::Int(z) => write!(f, "i{z}"),
-            Value::Ref(o) => write!(f, "r{o}"),
-            Value::Null => f.write_str("null"),
-        }
-    }
 }
 
 pub fn zero_slot() -> Slot

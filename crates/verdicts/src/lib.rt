@@ -1,15 +1,13 @@
 // Why a bundle is refused, and the numbers that the document has for it.
 #![tactic(auto)]
 
-ghost use Rattle.std.specs.Prelude.{◌≡◌, Some};
+ghost use Rattle.std.specs.Prelude.{◌≡◌};
 ghost use Rattle.verdicts.specs.Numbers.{why_number, numbers, judgement};
-ghost use Rattle.verdicts.specs.Text.{refusal_text};
 ghost use Rattle.verdicts.specs.Verdicts.{verdict};
 ghost use Rattle.verdicts.specs.declared.Why.TheVariants.{Misfit};
 
 use entries::Short;
 use instructions::Addr;
-use std::fmt;
 
 // Why a rule fails: what it asks is not there, or an entry falls short of its place.
 #[derive(Clone, Copy)]
@@ -123,24 +121,6 @@ impl Refusal {
             Refusal::Order(c, l) => of_address(25, c, l),
             Refusal::Levels => of_bundle(26),
             Refusal::Given => of_bundle(27),
-        }
-    }
-}
-
-// Why is told of a 9 only.
-impl fmt::Display for Refusal {
-    ghost output = { λ r. Some (refusal_text r) };
-
-    fn fmt<W: fmt::Write>(&self, f: &mut fmt::Formatter<W>) -> fmt::Result {
-        let v = self.numbers();
-        write!(
-            f,
-            "refused {} class {} address {}",
-            v.number, v.class, v.address
-        )?;
-        match self {
-            Refusal::Rule(_, _, why) => write!(f, " why {}", why.number()),
-            _ => Ok(()),
         }
     }
 }
