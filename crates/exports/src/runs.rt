@@ -2,10 +2,33 @@
 ghost use Rattle.std.specs.Prelude.{◌≡◌, ◌≤◌, length};
 ghost use Rattle.ground.specs.Bytes.{at};
 ghost use Rattle.ground.specs.Bounded.{set_below};
-ghost use Rattle.exports.specs.Runs.{RunGives};
+ghost use Rattle.runner.specs.Run.{ran_in};
+ghost use Rattle.exports.specs.Runs.{packed_ran, RunGives};
 
 use crate::pack;
+use runner::Ran;
+use state::State;
 use state_bytes::LENGTH;
+use verdicts::Refusal;
+
+fn pack_ran(ran: &Result<Ran, Refusal>) -> u64
+    ensures { result ≡ packed_ran (ran_in ran.now) }
+{
+    match ran {
+        Ok(ran) => 256 * ((ran.steps % 72057594037927936) as u64),
+        Err(refusal) => 19 + 256 * pack(refusal.numbers()),
+    }
+}
+
+// The state that is written, in one place for both, so that the stack holds it once.
+fn last_state(ran: &Result<Ran, Refusal>) -> State
+    ensures { result ≡ (ran_in ran.now).state }
+{
+    match ran {
+        Ok(ran) => ran.state,
+        Err(_) => state::empty_state(),
+    }
+}
 
 // The first 2,537 bytes.
 fn lay(out: &mut [u8], g: [u8; LENGTH])
@@ -27,14 +50,7 @@ pub extern "C" fn hveitmar_run(b: &[u8], schedule: &[u8], out: &mut [u8]) -> u64
     if out.len() < LENGTH {
         return 24;
     }
-    match runner::run(b, schedule) {
-        Ok(ran) => {
-            lay(out, state_written::bytes(ran.state));
-            256 * ((ran.steps % 72057594037927936) as u64)
-        }
-        Err(refusal) => {
-            lay(out, state_written::bytes(state::empty_state()));
-            19 + 256 * pack(refusal.numbers())
-        }
-    }
+    let ran = runner::run(b, schedule);
+    lay(out, state_written::bytes(last_state(&ran)));
+    pack_ran(&ran)
 }
