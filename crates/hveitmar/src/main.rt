@@ -8,6 +8,7 @@ use std::process::ExitCode;
 use std::{fmt, io};
 use verdicts::Refusal;
 
+// A refusal as the line says it.
 #[derive(Clone, Copy)]
 struct Refused(Refusal);
 

@@ -5,7 +5,6 @@ use Rattle.verdicts.specs.declared.Verdict.{Verdict}
 use Rattle.verdicts.specs.Numbers.{judgement}
 use Rattle.verifier.specs.Verdict.{verdict_of}
 use Rattle.state.specs.declared.State.{State}
-use Rattle.turns.specs.declared.Stepped as code
 use Rattle.turns.specs.Stepped.{Stepped, stepped_in}
 use Rattle.machine.specs.Machine.{fresh_of, step_of}
 use Rattle.soundness.specs.Sound.{Safe, Sound}
